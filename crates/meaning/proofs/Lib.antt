@@ -1,0 +1,10 @@
+pub mod Names
+pub mod Pairs
+pub mod ColumnsTold
+pub mod RowsAgree
+pub mod TablesAlike
+pub mod Unused
+pub mod WellFormed
+pub mod Order
+pub mod Laws
+pub mod Worked

@@ -1,0 +1,9 @@
+pub mod Steps
+pub mod WholeRun
+pub mod Totals
+pub mod ByPosition
+pub mod UsedTests
+pub mod UsedExactly
+pub mod PagesRead
+pub mod Turns
+pub mod Course

@@ -1,0 +1,79 @@
+// Is a question sound: tables well declared, every step fitting.
+use crate::binding::*;
+use crate::faults::*;
+use crate::plans::*;
+use reference_reading::questions::*;
+use reference_reading::spans::*;
+use std::alloc::Global;
+
+const PAGE_WORDS: u64 = 512;
+
+const MOST_COLUMNS: usize = 64;
+
+// One to 64 columns, all of different names.
+pub fn check_columns(text: &[u8], columns: &[Column]) -> Result<(), Unsound> {
+    if columns.is_empty() {
+        return Err(Unsound::NoColumns);
+    }
+    if columns.len() > MOST_COLUMNS {
+        return Err(Unsound::TooManyColumns(columns.len()));
+    }
+    for (i, column) in columns.iter().enumerate() {
+        match find_column(text, columns, column.name) {
+            Some(first) if first < i => return Err(Unsound::SameColumn(column.name)),
+            _ => {}
+        }
+    }
+    Ok(())
+}
+
+// A column's pages lie below the border, also where it has no rows.
+fn check_pages(table: &TableDecl, border: u64) -> Result<(), Unsound> {
+    let pages = table.rows.div_ceil(PAGE_WORDS);
+    for stored in table.columns.iter() {
+        if stored.page.saturating_add(pages) > border {
+            return Err(Unsound::BeyondBorder(stored.column.name, border));
+        }
+    }
+    Ok(())
+}
+
+pub fn columns_of(heap: Global, table: &TableDecl) -> Result<Vec<Column>, Unsound> {
+    let mut columns = Vec::new(heap);
+    for stored in table.columns.iter() {
+        columns.push(stored.column)?;
+    }
+    Ok(columns)
+}
+
+fn check_table(
+    heap: Global,
+    text: &[u8],
+    tables: &[TableDecl],
+    at: usize,
+    table: &TableDecl,
+    border: u64,
+) -> Result<(), Unsound> {
+    if find_table(text, tables, table.name)? < at {
+        return Err(Unsound::SameTable(table.name));
+    }
+    check_columns(text, columns_of(heap, table)?.as_slice())?;
+    check_pages(table, border)
+}
+
+pub fn check_tables(
+    heap: Global,
+    text: &[u8],
+    tables: &[TableDecl],
+    border: u64,
+) -> Result<(), NotSound> {
+    for (at, table) in tables.iter().enumerate() {
+        if let Err(fault) = check_table(heap, text, tables, at, table, border) {
+            return Err(NotSound {
+                line: table.line,
+                fault,
+            });
+        }
+    }
+    Ok(())
+}
