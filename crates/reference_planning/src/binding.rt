@@ -1,5 +1,6 @@
 // Names to positions, and the types of expressions.
-ghost use Prim.Native.Nat.{_<_};
+ghost use denote.Ref.{now};
+ghost use Prim.Native.Nat.{_<_, _≤_};
 ghost use lib.ListN.{length};
 ghost use Rattle.std.specs.Slices.{found};
 ghost use Rattle.std.specs.Vec.{made};
@@ -32,12 +33,14 @@ pub fn find_table(text: &[u8], tables: &[TableDecl], name: Span) -> Result<usize
     Err(Unsound::NoTable(name))
 }
 
-// The columns that a step stands behind, and where the line stands that brought them.
+// The columns that a step stands behind, one to 64, and where the line stands that brought them.
 #[derive(Clone, Copy)]
 pub struct Before<'b> {
     pub text: &'b [u8],
     pub columns: &'b [Column],
     pub line: Span,
+    ghost any: { 1 ≤ length (now columns) },
+    ghost few: { length (now columns) ≤ 64 },
 }
 
 // A column by its position and its kind.

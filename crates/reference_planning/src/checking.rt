@@ -1,4 +1,8 @@
 // Is a question sound: tables well declared, every step fitting.
+ghost use Prim.Native.Nat.{_≤_};
+ghost use lib.ListN.{length};
+ghost use Rattle.std.specs.Of.Vec.{vec-len};
+ghost use Rattle.std.specs.Vec.{made};
 use crate::binding::*;
 use crate::faults::*;
 use crate::plans::*;
@@ -11,7 +15,9 @@ const PAGE_WORDS: u64 = 512;
 const MOST_COLUMNS: usize = 64;
 
 // One to 64 columns, all of different names.
-pub fn check_columns(text: &[u8], columns: &[Column]) -> Result<(), Unsound> {
+pub fn check_columns(text: &[u8], columns: &[Column]) -> Result<(), Unsound>
+    ensures { λ r. ⌜ made r (λ _. (1 ≤ length (now (columns .entry))) × (length (now (columns .entry)) ≤ 64)) ⌝ }
+{
     if columns.is_empty() {
         return Err(Unsound::NoColumns);
     }
@@ -38,11 +44,15 @@ fn check_pages(table: &TableDecl, border: u64) -> Result<(), Unsound> {
     Ok(())
 }
 
-pub fn columns_of(heap: Global, table: &TableDecl) -> Result<Vec<Column>, Unsound> {
+// The columns of a table, one to 64 of different names.
+pub fn columns_of(heap: Global, text: &[u8], table: &TableDecl) -> Result<Vec<Column>, Unsound>
+    ensures { λ r. ⌜ made r (λ v. (1 ≤ vec-len v) × (vec-len v ≤ 64)) ⌝ }
+{
     let mut columns = Vec::new(heap);
     for stored in table.columns.iter() {
         columns.push(stored.column)?;
     }
+    check_columns(text, columns.as_slice())?;
     Ok(columns)
 }
 
@@ -57,7 +67,7 @@ fn check_table(
     if find_table(text, tables, table.name)? < at {
         return Err(Unsound::SameTable(table.name));
     }
-    check_columns(text, columns_of(heap, table)?.as_slice())?;
+    let _ = columns_of(heap, text, table)?;
     check_pages(table, border)
 }
 

@@ -69,7 +69,7 @@ fn join(
     join: Join,
 ) -> Result<Bound, Unsound> {
     let table = find_table(before.text, tables, join.table)?;
-    let others = columns_of(heap, &tables[table])?;
+    let others = columns_of(heap, before.text, &tables[table])?;
     let place = before.place(join.column)?;
     let Some(other_column) = find_column(before.text, others.as_slice(), join.other_column) else {
         return Err(Unsound::NotInTable(join.other_column, join.table));
@@ -186,7 +186,7 @@ fn unite(
     name: Span,
 ) -> Result<Bound, Unsound> {
     let table = find_table(before.text, tables, name)?;
-    let others = columns_of(heap, &tables[table])?;
+    let others = columns_of(heap, before.text, &tables[table])?;
     if !same_names_and_kinds(before.text, before.columns, others.as_slice()) {
         return Err(Unsound::OtherColumns(name, before.line));
     }

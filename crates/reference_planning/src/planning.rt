@@ -17,7 +17,7 @@ fn at_line<T: Drop>(line: usize, result: Result<T, Unsound>) -> Result<T, NotSou
 
 fn start(heap: Global, text: &[u8], question: &Question) -> Result<Plan, Unsound> {
     let source = find_table(text, question.tables.as_slice(), question.source.table)?;
-    let columns = columns_of(heap, &question.tables[source])?;
+    let columns = columns_of(heap, text, &question.tables[source])?;
     Ok(Plan {
         source,
         actions: Vec::new(heap),
@@ -45,9 +45,8 @@ fn extend(
         },
         step,
     )?;
-    let Bound { action, columns } = bound;
-    plan.actions.push(action)?;
-    plan.columns = columns;
+    plan.actions.push(bound.action)?;
+    plan.columns = bound.columns;
     Ok(())
 }
 

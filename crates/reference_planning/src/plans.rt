@@ -1,4 +1,6 @@
 // A sound question with its names replaced by positions.
+ghost use Prim.Native.Nat.{_≤_};
+ghost use Rattle.std.specs.Of.Vec.{vec-len};
 use crate::values::*;
 use reference_reading::questions::*;
 use reference_reading::spans::*;
@@ -59,16 +61,21 @@ pub enum Action {
     Distinct,
 }
 
-// What a step does, and the columns behind it.
+// What a step does, and the columns behind it: one to 64.
 #[derive(Drop)]
 pub struct Bound {
     pub action: Action,
     pub columns: Vec<Column>,
+    ghost any: { 1 ≤ vec-len columns },
+    ghost few: { vec-len columns ≤ 64 },
 }
 
+// The table to begin with, what to do step by step, and the columns behind the last step: one to 64.
 #[derive(Drop)]
 pub struct Plan {
     pub source: usize,
     pub actions: Vec<Action>,
     pub columns: Vec<Column>,
+    ghost any: { 1 ≤ vec-len columns },
+    ghost few: { vec-len columns ≤ 64 },
 }

@@ -52,7 +52,7 @@ fn large_sum_stays_null(rt: LibcRuntime) -> Result<(), Fail> {
     pages.column(&[quarter, quarter, quarter, quarter, 5, 0x7fff_ffff_ffff_fffe, NULL, 1])?;
     pages.expect(
         rt.alloc(),
-        "table t 8 k num 0 x num 1\nfrom t\ngroup k : s = sum x\n",
+        "table t 8 k num 0 x num 1\nfrom t\ngroup k : s = sum x",
         "1,\n2,9223372036854775807\n",
     )
 }
@@ -74,13 +74,17 @@ fn order_and_take_stay_apart(rt: LibcRuntime) -> Result<(), Fail> {
     let mut pages = PageFile::new(rt.alloc());
     pages.column(&[3, 1, NULL, 2, 1])?;
     pages.column(&[0, 1, 2, 3, 4])?;
-    let heap = rt.alloc();
-    let table = "table t 5 x num 0 i num 1\nfrom t\n";
-    pages.expect(heap, format!(heap, "{table}take 2\norder x\n")?.as_str(), "1,1\n3,0\n")?;
-    pages.expect(heap, format!(heap, "{table}order x\ntake 2\n")?.as_str(), ",2\n1,1\n")?;
-    pages.expect(heap, format!(heap, "{table}order -x\n")?.as_str(), "3,0\n2,3\n1,1\n1,4\n,2\n")?;
-    pages.expect(heap, format!(heap, "{table}order -x -i x\nskip 2\n")?.as_str(), "1,4\n1,1\n,2\n")?;
-    pages.expect(heap, format!(heap, "{table}order\nskip 4\n")?.as_str(), "1,4\n")
+    pages.expect_all(
+        rt.alloc(),
+        "table t 5 x num 0 i num 1\nfrom t\n",
+        &[
+            ("take 2\norder x", "1,1\n3,0\n"),
+            ("order x\ntake 2", ",2\n1,1\n"),
+            ("order -x", "3,0\n2,3\n1,1\n1,4\n,2\n"),
+            ("order -x -i x\nskip 2", "1,4\n1,1\n,2\n"),
+            ("order\nskip 4", "1,4\n"),
+        ],
+    )
 }
 
 #[test]
@@ -99,28 +103,31 @@ fn distinct_and_pick_stay_apart(rt: LibcRuntime) -> Result<(), Fail> {
     let mut pages = PageFile::new(rt.alloc());
     pages.column(&[1, 1, NULL, 1, NULL])?;
     pages.column(&[1, 2, 3, 1, 3])?;
-    let heap = rt.alloc();
-    let table = "table t 5 x num 0 y num 1\nfrom t\n";
-    pages.expect(heap, format!(heap, "{table}pick x\ndistinct\n")?.as_str(), "1\n\n")?;
-    pages.expect(heap, format!(heap, "{table}distinct\npick x\n")?.as_str(), "1\n1\n\n")
+    pages.expect_all(
+        rt.alloc(),
+        "table t 5 x num 0 y num 1\nfrom t\n",
+        &[("pick x\ndistinct", "1\n\n"), ("distinct\npick x", "1\n1\n\n")],
+    )
 }
+
+// A table of so many rows, 0, 1, 2, .., and its count, largest value and sum.
+const SIZES: [(u64, &str); 6] = [
+    (0, "0,,0\n"),
+    (1, "1,0,0\n"),
+    (511, "511,510,130305\n"),
+    (512, "512,511,130816\n"),
+    (513, "513,512,131328\n"),
+    (1024, "1024,1023,523776\n"),
+];
 
 #[test]
 fn whole_pages_and_one_more(rt: LibcRuntime) -> Result<(), Fail> {
     let heap = rt.alloc();
-    for rows in [0, 1, 511, 512, 513, 1024] {
+    for (rows, expected) in SIZES {
         let mut pages = PageFile::new(heap);
         pages.counting(rows)?;
-        let text = format!(heap, "table t {rows} x num 0\nfrom t\ngroup : n = count, m = max x, s = sum x\n")?;
-        let expected = match rows {
-            0 => "0,,0\n",
-            1 => "1,0,0\n",
-            511 => "511,510,130305\n",
-            512 => "512,511,130816\n",
-            513 => "513,512,131328\n",
-            _ => "1024,1023,523776\n",
-        };
-        pages.expect(heap, text.as_str(), expected)?;
+        let head = format!(heap, "table t {rows} x num 0\nfrom t\n")?;
+        pages.expect_all(heap, head.as_str(), &[("group : n = count, m = max x, s = sum x", expected)])?;
     }
     Ok(())
 }
@@ -128,12 +135,17 @@ fn whole_pages_and_one_more(rt: LibcRuntime) -> Result<(), Fail> {
 #[test]
 fn no_rows_print_nothing(rt: LibcRuntime) -> Result<(), Fail> {
     let pages = keyed(rt.alloc())?;
-    let heap = rt.alloc();
-    let table = "table a 4 k num 0 x num 1\ntable e 0 k num 4\nfrom a\n";
-    pages.expect(heap, format!(heap, "{table}keep x < 5\n")?.as_str(), "")?;
-    pages.expect(heap, format!(heap, "{table}keep none num\n")?.as_str(), "")?;
-    pages.expect(heap, format!(heap, "{table}take 0\n")?.as_str(), "")?;
-    pages.expect(heap, "table e 0 k num 4\nfrom e\ndistinct\norder k\n", "")
+    pages.expect_all(
+        rt.alloc(),
+        "table a 4 k num 0 x num 1\ntable e 0 k num 4\n",
+        &[
+            ("from a\nkeep x < 5", ""),
+            ("from a\nkeep none num", ""),
+            ("from a\ntake 0", ""),
+            ("from a\nskip 4", ""),
+            ("from e\ndistinct\norder k", ""),
+        ],
+    )
 }
 
 #[test]

@@ -5,11 +5,11 @@ use asking::reply;
 use std::alloc::Global;
 use std::test::*;
 
-// The command of these arguments, in a word.
-fn told(heap: Global, arguments: &[&str]) -> Result<&'static str, Fail> {
+// What `ask` is to do with these arguments.
+fn told(heap: Global, arguments: &str) -> Result<&'static str, Fail> {
     let mut all = Vec::new(heap);
-    for argument in arguments.iter() {
-        all.push(String::from_str(heap, *argument)?)?;
+    for argument in arguments.split_whitespace() {
+        all.push(String::from_str(heap, argument)?)?;
     }
     Ok(match Command::from_arguments(all.as_slice()) {
         Command::Help => "help",
@@ -18,17 +18,23 @@ fn told(heap: Global, arguments: &[&str]) -> Result<&'static str, Fail> {
     })
 }
 
+const CALLS: [(&str, &str); 8] = [
+    ("--help", "help"),
+    ("q p", "answer"),
+    ("- p", "answer"),
+    ("", "misused"),
+    ("q", "misused"),
+    ("-x p", "misused"),
+    ("q --help", "misused"),
+    ("q p r", "misused"),
+];
+
 #[test]
 fn arguments(rt: LibcRuntime) -> Result<(), Fail> {
-    let heap = rt.alloc();
-    check_eq(told(heap, &["--help"])?, "help")?;
-    check_eq(told(heap, &["q", "p"])?, "answer")?;
-    check_eq(told(heap, &["-", "p"])?, "answer")?;
-    check_eq(told(heap, &[])?, "misused")?;
-    check_eq(told(heap, &["q"])?, "misused")?;
-    check_eq(told(heap, &["-x", "p"])?, "misused")?;
-    check_eq(told(heap, &["q", "--help"])?, "misused")?;
-    check_eq(told(heap, &["q", "p", "r"])?, "misused")
+    for (arguments, expected) in CALLS {
+        check_eq(told(rt.alloc(), arguments)?, expected)?;
+    }
+    Ok(())
 }
 
 #[test]

@@ -55,6 +55,16 @@ impl PageFile {
         Ok(())
     }
 
+    // Each question, behind the same first lines, comes to what stands beside it.
+    pub fn expect_all(&self, heap: Global, head: &str, cases: &[(&str, &str)]) -> Result<(), Fail> {
+        for (steps, expected) in cases.iter() {
+            let mut text = String::from_str(heap, head)?;
+            text.push_str(*steps)?;
+            self.expect(heap, text.as_str(), *expected)?;
+        }
+        Ok(())
+    }
+
     // A question comes to these lines, or is refused by this one.
     pub fn expect(&self, heap: Global, text: &str, expected: &str) -> Result<(), Fail> {
         match reply(heap, text.as_bytes(), "test.pages", self.bytes.as_slice()) {
