@@ -27,7 +27,7 @@ impl<'a> Command<'a> {
     pub fn from_arguments(arguments: &'a [String]) -> Command<'a> {
         match arguments {
             [only] if only.as_str() == "--help" => Command::Help,
-            [question, pages] if !is_option(question.as_str()) && !is_option(pages.as_str()) => {
+            [question, pages] if is_text(question.as_str()) && is_file(pages.as_str()) => {
                 Command::Answer {
                     question: question.as_str(),
                     pages: pages.as_str(),
@@ -38,7 +38,11 @@ impl<'a> Command<'a> {
     }
 }
 
-// `-` alone is standard input.
-fn is_option(argument: &str) -> bool {
-    argument.starts_with('-') && argument.len() > 1
+fn is_file(argument: &str) -> bool {
+    !argument.starts_with('-')
+}
+
+// A file, or `-` for standard input.
+fn is_text(argument: &str) -> bool {
+    is_file(argument) || argument.len() == 1
 }

@@ -4,6 +4,7 @@ use pagefile::PageFileError;
 use pagefile::decode;
 use reference::answering::*;
 use reference::ask;
+use reference_reading::messages::*;
 use std::alloc::AllocError;
 use std::alloc::Global;
 
@@ -34,15 +35,19 @@ fn refused(heap: Global, text: &[u8], refusal: Refusal) -> Result<String, AllocE
     }
 }
 
+// The line for a page file that was cut off, or isn't one.
+fn broken(heap: Global, name: &str) -> Result<String, AllocError> {
+    let name = quoted(heap, name)?;
+    format!(
+        heap,
+        "ask: {name} isn't a whole number of pages of 4096 bytes"
+    )
+}
+
 fn words_of(heap: Global, name: &str, pages: &[u8]) -> Result<Vec<u64>, Failure> {
     match decode(heap, pages) {
         Ok(words) => Ok(words),
-        Err(PageFileError::NotWhole) => Err(Failure::Said(
-            format!(
-                heap,
-                "ask: {name} isn't a whole number of pages of 4096 bytes"
-            )?,
-        )),
+        Err(PageFileError::NotWhole) => Err(Failure::Said(broken(heap, name)?)),
         Err(PageFileError::OutOfMemory) => Err(Failure::OutOfMemory),
     }
 }
@@ -58,5 +63,6 @@ pub fn reply(heap: Global, text: &[u8], name: &str, pages: &[u8]) -> Result<Vec<
 
 // The line for a file that can't be read.
 pub fn cannot_read(heap: Global, name: &str, reason: &str) -> Result<String, AllocError> {
+    let name = quoted(heap, name)?;
     format!(heap, "ask: can't read {name}: {reason}")
 }

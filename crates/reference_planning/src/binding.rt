@@ -101,10 +101,11 @@ impl Kinds {
         self.stack.pop().unwrap_or(Kind::Num)
     }
 
-    fn number(&mut self, word: &'static str) -> Result<(), Unsound> {
+    // A number on top, or the fault that it isn't one.
+    fn number(&mut self, fault: Unsound) -> Result<(), Unsound> {
         match self.pop() {
             Kind::Num => Ok(()),
-            Kind::Word => Err(Unsound::WantsNumbers(word)),
+            Kind::Word => Err(fault),
         }
     }
 
@@ -115,8 +116,8 @@ impl Kinds {
                 return Err(Unsound::WantsOneType(word));
             }
         } else {
-            self.number(word)?;
-            self.number(word)?;
+            self.number(Unsound::WantsNumbers(word))?;
+            self.number(Unsound::WantsNumbers(word))?;
         }
         self.stack.push(Kind::Num)?;
         Ok(())
@@ -125,7 +126,7 @@ impl Kinds {
     fn choose(&mut self) -> Result<(), Unsound> {
         let no = self.pop();
         let yes = self.pop();
-        self.number("if")?;
+        self.number(Unsound::WantsNumber("if"))?;
         if no != yes {
             return Err(Unsound::WantsOneType("else"));
         }
@@ -158,7 +159,7 @@ fn bind_item(before: Before<'_>, kinds: &mut Kinds, item: Item) -> Result<Instru
             Ok(Instruction::Apply(operator))
         }
         Item::Not => {
-            kinds.number("not")?;
+            kinds.number(Unsound::WantsNumber("not"))?;
             kinds.stack.push(Kind::Num)?;
             Ok(Instruction::Not)
         }

@@ -18,6 +18,7 @@ pub enum Unsound {
     NoColumn(Span, Span),
     // The column's name, and the table that lacks it.
     NotInTable(Span, Span),
+    WantsNumber(&'static str),
     WantsNumbers(&'static str),
     WantsOneType(&'static str),
     SumOfWords(Span),
@@ -47,73 +48,100 @@ pub impl<T: Drop> From<Refused<T>> for Unsound as UnsoundFromRefused {
     }
 }
 
+// Something is wrong with a name.
 fn about(words: &'static str, name: Span) -> Phrase {
     [
         Part::Words(words),
         Part::Quote(name),
         Part::Empty,
         Part::Empty,
+        Part::Empty,
     ]
 }
 
-fn about_two(words: &'static str, name: Span, link: &'static str, other: Span) -> Phrase {
+// Something is wrong with two names.
+fn about_two(
+    words: &'static str,
+    name: Span,
+    link: &'static str,
+    other: Span,
+    rest: &'static str,
+) -> Phrase {
     [
         Part::Words(words),
         Part::Quote(name),
         Part::Words(link),
         Part::Quote(other),
+        Part::Words(rest),
     ]
 }
 
-fn about_word(word: &'static str, wants: &'static str) -> Phrase {
+// A word of the language wants something else.
+fn wants(word: &'static str, wanted: &'static str) -> Phrase {
     [
         Part::Words("'"),
         Part::Words(word),
         Part::Words("' wants "),
-        Part::Words(wants),
+        Part::Words(wanted),
+        Part::Empty,
+    ]
+}
+
+fn beyond(name: Span, pages: u64) -> Phrase {
+    [
+        Part::Words("column "),
+        Part::Quote(name),
+        Part::Words(" ends behind the file's "),
+        Part::Number(pages),
+        Part::Words(" pages"),
+    ]
+}
+
+fn too_many(count: usize) -> Phrase {
+    [
+        Part::Number(count as u64),
+        Part::Words(" columns, more than 64"),
+        Part::Empty,
+        Part::Empty,
+        Part::Empty,
     ]
 }
 
 impl Unsound {
     fn phrase(self) -> Phrase {
-        let none = Part::Empty;
         match self {
             Unsound::SameTable(name) => about("a second table is named ", name),
             Unsound::SameColumn(name) => about("a second column is named ", name),
-            Unsound::NoColumns => [Part::Words("there are no columns"), none, none, none],
-            Unsound::TooManyColumns(count) => {
-                [
-                    Part::Number(count as u64),
-                    Part::Words(" columns, more than 64"),
-                    none,
-                    none,
-                ]
-            }
-            Unsound::BeyondBorder(name, pages) => [
-                Part::Words("the pages end with page "),
-                Part::Number(pages),
-                Part::Words(" before column "),
-                Part::Quote(name),
-            ],
+            Unsound::NoColumns => plain("there are no columns"),
+            Unsound::TooManyColumns(count) => too_many(count),
+            Unsound::BeyondBorder(name, pages) => beyond(name, pages),
             Unsound::NoTable(name) => about("no table ", name),
-            Unsound::NoColumn(name, step) => about_two("no column ", name, " behind ", step),
-            Unsound::NotInTable(name, table) => about_two("no column ", name, " in table ", table),
-            Unsound::WantsNumbers(word) => about_word(word, "numbers"),
-            Unsound::WantsOneType(word) => about_word(word, "two values of one type"),
+            Unsound::NoColumn(name, step) => about_two("no column ", name, " behind ", step, ""),
+            Unsound::NotInTable(name, table) => about_two(
+                "no column ",
+                name,
+                " in table ",
+                table,
+                "",
+            ),
+            Unsound::WantsNumber(word) => wants(word, "a number"),
+            Unsound::WantsNumbers(word) => wants(word, "numbers"),
+            Unsound::WantsOneType(word) => wants(word, "two values of one type"),
             Unsound::SumOfWords(name) => about(
                 "'sum' wants numbers, not the words of column ",
                 name,
             ),
-            Unsound::TypesDiffer(x, y) => about_two("the types differ of columns ", x, " and ", y),
+            Unsound::TypesDiffer(x, y) => about_two("columns ", x, " and ", y, " differ in type"),
             Unsound::OtherColumns(table, step) => {
                 about_two(
-                    "other columns has table ",
+                    "table ",
                     table,
-                    " than stand behind ",
+                    " has other columns than stand behind ",
                     step,
+                    "",
                 )
             }
-            Unsound::OutOfMemory => [Part::Words("out of memory"), none, none, none],
+            Unsound::OutOfMemory => plain("out of memory"),
         }
     }
 }

@@ -22,7 +22,7 @@ fn new_columns(text: &[u8], columns: Vec<Column>, action: Action) -> Result<Boun
 fn keep(heap: Global, before: Before<'_>, items: &[Item]) -> Result<Bound, Unsound> {
     let bound = bind_code(heap, before, items)?;
     if bound.kind != Kind::Num {
-        return Err(Unsound::WantsNumbers("keep"));
+        return Err(Unsound::WantsNumber("keep"));
     }
     same_columns(heap, before, Action::Keep(bound.code))
 }

@@ -1,4 +1,9 @@
 // Values and what operators make of them. The order of the variants is the order of values: null is the least.
+ghost use mathlib.Core.Bool.{not};
+ghost use mathlib.Core.Path.{_≡_};
+ghost use Rattle.meaning.specs.Steps.{add-to-sum, is-true, not-null};
+ghost use Rattle.meaning.specs.Values.{and3, apply-op, bit, if3, is-null, not3, num-or-null, of-truth, or3, truth};
+ghost use Rattle.reference_planning.specs.Values.{compared, computed, meant, meant-op, meant-truth, meant-type, stored};
 use reference_reading::questions::*;
 
 #[derive(Clone, Copy, PartialEq, Eq, PartialOrd, Ord, Debug)]
@@ -15,7 +20,7 @@ const NUMBER_LIMIT: u64 = 0x8000_0000_0000_0000;
 // 2^56
 const WORD_LIMIT: u64 = 0x0100_0000_0000_0000;
 
-#[derive(Clone, Copy, PartialEq, Eq)]
+#[derive(Clone, Copy)]
 enum Truth {
     True,
     False,
@@ -23,7 +28,9 @@ enum Truth {
 }
 
 impl Truth {
-    fn and(self, other: Truth) -> Truth {
+    fn and(self, other: Truth) -> Truth
+        ensures { λ r. ⌜ meant-truth r ≡ and3 (meant-truth self) (meant-truth other) ⌝ }
+    {
         match (self, other) {
             (Truth::False, _) => Truth::False,
             (_, Truth::False) => Truth::False,
@@ -32,7 +39,9 @@ impl Truth {
         }
     }
 
-    fn or(self, other: Truth) -> Truth {
+    fn or(self, other: Truth) -> Truth
+        ensures { λ r. ⌜ meant-truth r ≡ or3 (meant-truth self) (meant-truth other) ⌝ }
+    {
         match (self, other) {
             (Truth::True, _) => Truth::True,
             (_, Truth::True) => Truth::True,
@@ -41,7 +50,9 @@ impl Truth {
         }
     }
 
-    fn value(self) -> Value {
+    fn value(self) -> Value
+        ensures { λ r. ⌜ meant r ≡ of-truth (meant-truth self) ⌝ }
+    {
         match self {
             Truth::True => Value::Number(1),
             Truth::False => Value::Number(0),
@@ -52,7 +63,9 @@ impl Truth {
 
 impl Value {
     // What a word on a page says in a column of this kind; what it can't be is null.
-    pub fn from_cell(kind: Kind, cell: u64) -> Value {
+    pub fn from_cell(kind: Kind, cell: u64) -> Value
+        ensures { λ r. ⌜ meant r ≡ stored (meant-type kind) cell ⌝ }
+    {
         match kind {
             Kind::Num => {
                 if cell < NUMBER_LIMIT {
@@ -71,7 +84,9 @@ impl Value {
         }
     }
 
-    fn number(n: u64) -> Value {
+    fn number(n: u64) -> Value
+        ensures { λ r. ⌜ meant r ≡ num-or-null n ⌝ }
+    {
         if n < NUMBER_LIMIT {
             Value::Number(n)
         } else {
@@ -79,7 +94,9 @@ impl Value {
         }
     }
 
-    fn truth(self) -> Truth {
+    fn truth(self) -> Truth
+        ensures { λ r. ⌜ meant-truth r ≡ truth (meant self) ⌝ }
+    {
         match self {
             Value::Number(0) => Truth::False,
             Value::Number(_) => Truth::True,
@@ -87,15 +104,22 @@ impl Value {
         }
     }
 
-    pub fn is_null(self) -> bool {
-        self == Value::Null
+    pub fn is_null(self) -> bool
+        ensures value { λ r. ⌜ bit r ≡ is-null (meant self) ⌝ }
+        ensures test { λ r. ⌜ not-null (meant self) ≡ not r ⌝ }
+    {
+        matches!(self, Value::Null)
     }
 
-    pub fn is_true(self) -> bool {
-        self.truth() == Truth::True
+    pub fn is_true(self) -> bool
+        ensures { λ r. ⌜ r ≡ is-true (meant self) ⌝ }
+    {
+        matches!(self.truth(), Truth::True)
     }
 
-    pub fn not(self) -> Value {
+    pub fn not(self) -> Value
+        ensures { λ r. ⌜ meant r ≡ of-truth (not3 (truth (meant self))) ⌝ }
+    {
         match self.truth() {
             Truth::True => Value::Number(0),
             Truth::False => Value::Number(1),
@@ -104,11 +128,15 @@ impl Value {
     }
 
     // 1 or 0
-    pub fn of_test(holds: bool) -> Value {
+    pub fn of_test(holds: bool) -> Value
+        ensures { λ r. ⌜ meant r ≡ bit holds ⌝ }
+    {
         Value::Number(u64::from(holds))
     }
 
-    pub fn choose(self, yes: Value, no: Value) -> Value {
+    pub fn choose(self, yes: Value, no: Value) -> Value
+        ensures { λ r. ⌜ meant r ≡ if3 (truth (meant self)) (meant yes) (meant no) ⌝ }
+    {
         match self.truth() {
             Truth::True => yes,
             Truth::False => no,
@@ -116,60 +144,61 @@ impl Value {
         }
     }
 
+    // Words compare as their numbers do; other operators make null.
+    fn compare(operator: Operator, a: u64, b: u64) -> Value
+        ensures { λ r. ⌜ meant r ≡ compared (meant-op operator) a b ⌝ }
+    {
+        match operator {
+            Operator::Equal => Value::of_test(a == b),
+            Operator::Differ => Value::of_test(a != b),
+            Operator::Less => Value::of_test(a < b),
+            Operator::AtMost => Value::of_test(a <= b),
+            _ => Value::Null,
+        }
+    }
+
     // What is too large, below 0 or divided by 0 is null.
-    fn arithmetic(operator: Operator, a: u64, b: u64) -> Value {
-        let result = match operator {
-            Operator::Add => a.checked_add(b),
-            Operator::Subtract => a.checked_sub(b),
-            Operator::Multiply => a.checked_mul(b),
-            Operator::Divide => a.checked_div(b),
-            _ => a.checked_rem(b),
-        };
-        match result {
-            Some(n) => Value::number(n),
-            None => Value::Null,
+    fn compute(operator: Operator, a: u64, b: u64) -> Value
+        ensures { λ r. ⌜ meant r ≡ computed (meant-op operator) a b ⌝ }
+    {
+        match operator {
+            Operator::Add => Value::number(a.saturating_add(b)),
+            Operator::Multiply => Value::number(a.saturating_mul(b)),
+            Operator::Subtract if a >= b => Value::Number(a - b),
+            Operator::Divide if b != 0 => Value::Number(a / b),
+            Operator::Remainder if b != 0 => Value::Number(a % b),
+            _ => Value::compare(operator, a, b),
         }
     }
 
-    fn compare(operator: Operator, a: Value, b: Value) -> Value {
-        if a.is_null() || b.is_null() {
-            return Value::Null;
-        }
-        Value::of_test(
-            match operator {
-                Operator::Equal => a == b,
-                Operator::Differ => a != b,
-                Operator::Less => a < b,
-                _ => a <= b,
-            },
-        )
-    }
-
-    pub fn apply(operator: Operator, a: Value, b: Value) -> Value {
+    pub fn apply(operator: Operator, a: Value, b: Value) -> Value
+        ensures { λ r. ⌜ meant r ≡ apply-op (meant-op operator) (meant a) (meant b) ⌝ }
+    {
         match operator {
             Operator::And => a.truth().and(b.truth()).value(),
             Operator::Or => a.truth().or(b.truth()).value(),
-            Operator::Equal => Value::compare(operator, a, b),
-            Operator::Differ => Value::compare(operator, a, b),
-            Operator::Less => Value::compare(operator, a, b),
-            Operator::AtMost => Value::compare(operator, a, b),
             _ => match (a, b) {
-                (Value::Number(x), Value::Number(y)) => Value::arithmetic(operator, x, y),
+                (Value::Number(x), Value::Number(y)) => Value::compute(operator, x, y),
+                (Value::Word(x), Value::Word(y)) => Value::compare(operator, x, y),
                 (_, _) => Value::Null,
             },
         }
     }
 
     // One more term of a sum: null is left out, and a sum that was too large stays null.
-    pub fn plus(self, term: Value) -> Value {
+    pub fn plus(self, term: Value) -> Value
+        ensures { λ r. ⌜ meant r ≡ add-to-sum (meant self) (meant term) ⌝ }
+    {
         match (self, term) {
             (Value::Number(_), Value::Null) => self,
-            (Value::Number(a), Value::Number(b)) => Value::arithmetic(Operator::Add, a, b),
+            (Value::Number(a), Value::Number(b)) => Value::compute(Operator::Add, a, b),
             (_, _) => Value::Null,
         }
     }
 
-    pub fn count(rows: usize) -> Value {
+    pub fn count(rows: usize) -> Value
+        ensures { λ r. ⌜ meant r ≡ num-or-null rows ⌝ }
+    {
         Value::number(rows as u64)
     }
 }

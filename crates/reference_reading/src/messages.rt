@@ -13,7 +13,8 @@ pub enum Part {
     Number(u64),
 }
 
-pub type Phrase = [Part; 4];
+// A message is made of at most five parts.
+pub type Phrase = [Part; 5];
 
 const HEX: [char; 16] = [
     '0',
@@ -63,6 +64,13 @@ fn push_part(
     }
 }
 
+// A name between quotes, as messages show it.
+pub fn quoted(heap: Global, name: &str) -> Result<String, AllocError> {
+    let mut message = String::new(heap);
+    push_quote(&mut message, name.as_bytes())?;
+    Ok(message)
+}
+
 // The line's number and what is wrong there.
 pub fn message(
     heap: Global,
@@ -102,60 +110,52 @@ impl Wanted {
     }
 }
 
+// A part of the text and what is wrong with it.
+fn about(span: Span, words: &'static str) -> Phrase {
+    [
+        Part::Quote(span),
+        Part::Words(words),
+        Part::Empty,
+        Part::Empty,
+        Part::Empty,
+    ]
+}
+
+// Something that is wrong without a part of the text.
+pub fn plain(words: &'static str) -> Phrase {
+    [
+        Part::Words(words),
+        Part::Empty,
+        Part::Empty,
+        Part::Empty,
+        Part::Empty,
+    ]
+}
+
 impl Fault {
     fn phrase(self) -> Phrase {
-        let none = Part::Empty;
         match self {
-            Fault::OpenQuote => [Part::Words("a quote isn't closed"), none, none, none],
-            Fault::LongWord(word) => {
-                [
-                    Part::Quote(word),
-                    Part::Words(" has more than seven bytes"),
-                    none,
-                    none,
-                ]
-            }
-            Fault::LargeNumber(digits) => [
-                Part::Quote(digits),
-                Part::Words(" isn't below 2^63"),
-                none,
-                none,
-            ],
-            Fault::NotANumber(word) => {
-                [
-                    Part::Quote(word),
-                    Part::Words(" is neither a name nor a number"),
-                    none,
-                    none,
-                ]
-            }
-            Fault::StraySign(sign) => [
-                Part::Quote(sign),
-                Part::Words(" has no meaning here"),
-                none,
-                none,
-            ],
+            Fault::OpenQuote => plain("a quote isn't closed"),
+            Fault::LongWord(word) => about(word, " has more than seven bytes"),
+            Fault::LargeNumber(digits) => about(digits, " isn't below 2^63"),
+            Fault::NotANumber(word) => about(word, " is neither a name nor a number"),
+            Fault::StraySign(sign) => about(sign, " has no meaning here"),
             Fault::Found { wanted, found } => [
                 Part::Words(wanted.words()),
                 Part::Words(" expected, "),
                 Part::Quote(found),
                 Part::Words(" found"),
+                Part::Empty,
             ],
-            Fault::Ends(wanted) => {
-                [
-                    Part::Words(wanted.words()),
-                    Part::Words(" expected, the line ends"),
-                    none,
-                    none,
-                ]
-            }
-            Fault::NoFrom => [
-                Part::Words("the text ends without 'from'"),
-                none,
-                none,
-                none,
+            Fault::Ends(wanted) => [
+                Part::Words(wanted.words()),
+                Part::Words(" expected, the line ends"),
+                Part::Empty,
+                Part::Empty,
+                Part::Empty,
             ],
-            Fault::OutOfMemory => [Part::Words("out of memory"), none, none, none],
+            Fault::NoFrom => plain("the text ends without 'from'"),
+            Fault::OutOfMemory => plain("out of memory"),
         }
     }
 }

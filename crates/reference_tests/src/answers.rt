@@ -49,7 +49,18 @@ fn large_sum_stays_null(rt: LibcRuntime) -> Result<(), Fail> {
     let mut pages = PageFile::new(rt.alloc());
     let quarter = 0x4000_0000_0000_0000;
     pages.column(&[1, 1, 1, 1, 1, 2, 2, 2])?;
-    pages.column(&[quarter, quarter, quarter, quarter, 5, 0x7fff_ffff_ffff_fffe, NULL, 1])?;
+    pages.column(
+        &[
+            quarter,
+            quarter,
+            quarter,
+            quarter,
+            5,
+            0x7fff_ffff_ffff_fffe,
+            NULL,
+            1,
+        ],
+    )?;
     pages.expect(
         rt.alloc(),
         "table t 8 k num 0 x num 1\nfrom t\ngroup k : s = sum x",
@@ -106,7 +117,10 @@ fn distinct_and_pick_stay_apart(rt: LibcRuntime) -> Result<(), Fail> {
     pages.expect_all(
         rt.alloc(),
         "table t 5 x num 0 y num 1\nfrom t\n",
-        &[("pick x\ndistinct", "1\n\n"), ("distinct\npick x", "1\n1\n\n")],
+        &[
+            ("pick x\ndistinct", "1\n\n"),
+            ("distinct\npick x", "1\n1\n\n"),
+        ],
     )
 }
 
@@ -127,7 +141,11 @@ fn whole_pages_and_one_more(rt: LibcRuntime) -> Result<(), Fail> {
         let mut pages = PageFile::new(heap);
         pages.counting(rows)?;
         let head = format!(heap, "table t {rows} x num 0\nfrom t\n")?;
-        pages.expect_all(heap, head.as_str(), &[("group : n = count, m = max x, s = sum x", expected)])?;
+        pages.expect_all(
+            heap,
+            head.as_str(),
+            &[("group : n = count, m = max x, s = sum x", expected)],
+        )?;
     }
     Ok(())
 }

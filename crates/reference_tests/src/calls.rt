@@ -11,17 +11,23 @@ fn told(heap: Global, arguments: &str) -> Result<&'static str, Fail> {
     for argument in arguments.split_whitespace() {
         all.push(String::from_str(heap, argument)?)?;
     }
-    Ok(match Command::from_arguments(all.as_slice()) {
-        Command::Help => "help",
-        Command::Answer { question: _, pages: _ } => "answer",
-        Command::Misused => "misused",
-    })
+    Ok(
+        match Command::from_arguments(all.as_slice()) {
+            Command::Help => "help",
+            Command::Answer {
+                question: _,
+                pages: _,
+            } => "answer",
+            Command::Misused => "misused",
+        },
+    )
 }
 
-const CALLS: [(&str, &str); 8] = [
+const CALLS: [(&str, &str); 9] = [
     ("--help", "help"),
     ("q p", "answer"),
     ("- p", "answer"),
+    ("q -", "misused"),
     ("", "misused"),
     ("q", "misused"),
     ("-x p", "misused"),
@@ -41,7 +47,10 @@ fn arguments(rt: LibcRuntime) -> Result<(), Fail> {
 fn broken_page_file(rt: LibcRuntime) -> Result<(), Fail> {
     match reply(rt.alloc(), b"from t", "x.pages", &[0u8; 100]) {
         Err(Failure::Said(line)) => {
-            check_eq(line.as_str(), "ask: x.pages isn't a whole number of pages of 4096 bytes")
+            check_eq(
+                line.as_str(),
+                "ask: 'x.pages' isn't a whole number of pages of 4096 bytes",
+            )
         }
         _ => Err(Fail::new("a broken page file was read")),
     }
@@ -50,5 +59,5 @@ fn broken_page_file(rt: LibcRuntime) -> Result<(), Fail> {
 #[test]
 fn unreadable_file(rt: LibcRuntime) -> Result<(), Fail> {
     let line = cannot_read(rt.alloc(), "q", "gone")?;
-    check_eq(line.as_str(), "ask: can't read q: gone")
+    check_eq(line.as_str(), "ask: can't read 'q': gone")
 }

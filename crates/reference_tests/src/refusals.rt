@@ -48,28 +48,28 @@ from u => line 3: no table 'u'
 table t 1 x num 0; from t => line 3: a second table is named 't'
 table u 1; from t => line 3: there are no columns
 table u 1 x num 0 x num 0; from t => line 3: a second column is named 'x'
-table u 1 x num 2; from t => line 3: the pages end with page 2 before column 'x'
-table u 513 x num 1; from t => line 3: the pages end with page 2 before column 'x'
-table u 0 x num 3; from t => line 3: the pages end with page 2 before column 'x'
-from t; keep w => line 4: 'keep' wants numbers
+table u 1 x num 2; from t => line 3: column 'x' ends behind the file's 2 pages
+table u 513 x num 1; from t => line 3: column 'x' ends behind the file's 2 pages
+table u 0 x num 3; from t => line 3: column 'x' ends behind the file's 2 pages
+from t; keep w => line 4: 'keep' wants a number
 from t; keep z => line 4: no column 'z' behind 'from t'
 from t; pick x w # two; keep z => line 5: no column 'z' behind 'pick x w'
 from t; make z = x + w => line 4: '+' wants numbers
 from t; make z = x == w => line 4: '==' wants two values of one type
-from t; make z = not w => line 4: 'not' wants numbers
-from t; make z = if w then 1 else 2 => line 4: 'if' wants numbers
+from t; make z = not w => line 4: 'not' wants a number
+from t; make z = if w then 1 else 2 => line 4: 'if' wants a number
 from t; make z = if x then 1 else w => line 4: 'else' wants two values of one type
 from t; make x = 1 => line 4: a second column is named 'x'
 from t; pick => line 4: there are no columns
 from t; pick x x => line 4: a second column is named 'x'
 from t; join v on x = k => line 4: no table 'v'
 from t; join s on x = k => line 4: no column 'k' in table 's'
-from t; join s on x = v => line 4: the types differ of columns 'x' and 'v'
+from t; join s on x = v => line 4: columns 'x' and 'v' differ in type
 from t; join t on x = x => line 4: a second column is named 'x'
 from t; group x : s = sum w => line 4: 'sum' wants numbers, not the words of column 'w'
 from t; group x : x = count => line 4: a second column is named 'x'
 from t; order z => line 4: no column 'z' behind 'from t'
-from t; unite s => line 4: other columns has table 's' than stand behind 'from t'
+from t; unite s => line 4: table 's' has other columns than stand behind 'from t'
 ";
 
 // A question's text, a line for each part.
@@ -81,7 +81,13 @@ fn lines(heap: Global, text: &str) -> Result<String, AllocError> {
     Ok(lines)
 }
 
-fn expect_list(heap: Global, pages: &PageFile, head: &str, verdict: &str, list: &str) -> Result<u32, Fail> {
+fn expect_list(
+    heap: Global,
+    pages: &PageFile,
+    head: &str,
+    verdict: &str,
+    list: &str,
+) -> Result<u32, Fail> {
     let mut count: u32 = 0;
     for case in list.lines() {
         if let Some((text, reason)) = case.split_once(" => ") {
@@ -98,7 +104,10 @@ fn expect_list(heap: Global, pages: &PageFile, head: &str, verdict: &str, list: 
 fn not_questions(rt: LibcRuntime) -> Result<(), Fail> {
     let heap = rt.alloc();
     let pages = PageFile::new(heap);
-    check_eq(expect_list(heap, &pages, "", "not a question", NOT_QUESTIONS)?, 34)
+    check_eq(
+        expect_list(heap, &pages, "", "not a question", NOT_QUESTIONS)?,
+        34,
+    )
 }
 
 #[test]

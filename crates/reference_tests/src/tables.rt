@@ -26,7 +26,9 @@ pub struct PageFile {
 
 impl PageFile {
     pub fn new(heap: Global) -> PageFile {
-        PageFile { bytes: Vec::new(heap) }
+        PageFile {
+            bytes: Vec::new(heap),
+        }
     }
 
     // A column more, on pages of its own.
