@@ -52,15 +52,13 @@ pub struct Place {
 
 impl<'b> Before<'b> {
     pub fn place(self, name: Span) -> Result<Place, Unsound> {
-        for (at, column) in self.columns.iter().enumerate() {
-            if column.name.same(name, self.text) {
-                return Ok(Place {
-                    at,
-                    kind: column.kind,
-                });
-            }
+        match find_column(self.text, self.columns, name) {
+            Some(at) => Ok(Place {
+                at,
+                kind: self.columns[at].kind,
+            }),
+            None => Err(Unsound::NoColumn(name, self.line)),
         }
-        Err(Unsound::NoColumn(name, self.line))
     }
 }
 

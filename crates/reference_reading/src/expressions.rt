@@ -94,6 +94,15 @@ impl Mark {
             _ => OPEN,
         }
     }
+
+    // What ends the part that the mark opens.
+    fn wants(self) -> Wanted {
+        match self {
+            Mark::If => Wanted::Then,
+            Mark::Then => Wanted::Else,
+            _ => Wanted::Close,
+        }
+    }
 }
 
 #[derive(Drop)]
@@ -268,17 +277,6 @@ impl Ending {
             Token::Keyword(Keyword::Then) => Some(Ending::Then),
             Token::Keyword(Keyword::Else) => Some(Ending::Else),
             _ => None,
-        }
-    }
-}
-
-impl Mark {
-    // What ends the part that the mark opens.
-    fn wants(self) -> Wanted {
-        match self {
-            Mark::If => Wanted::Then,
-            Mark::Then => Wanted::Else,
-            _ => Wanted::Close,
         }
     }
 }
