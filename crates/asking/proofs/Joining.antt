@@ -1,5 +1,5 @@
 -- Lists joined one after the other.
-use mathlib.Core.List.{List, _++_, append-assoc, map}
+use mathlib.Core.List.{List, _++_, map}
 use mathlib.Core.Path.{_≡_, ap, sym, _∙_}
 use Prim.Native.Nat.{ℕ, _+_, _<_, _≤_}
 use lib.ListN.{length, getD, take}
@@ -18,8 +18,3 @@ module _ {X Y A : Type 0} (f : Y → List A) (g : X → Y) (front : List A) wher
   -- all elements
   pub joined-all : {now : List A} (xs : List X) (i : ℕ) → length xs ≤ i → now ≡ front ++ joined f (map g (take i xs)) → now ≡ front ++ joined f (map g xs)
   joined-all xs i all before = before ∙ ap (λ l. front ++ joined f (map g l)) (take-all i xs all)
-
--- three parts, each put behind the others
-pub three-parts : (was a b c : List ℕ) {one two now : List ℕ} → one ≡ was ++ a → two ≡ one ++ b → now ≡ two ++ c → now ≡ was ++ (a ++ b ++ c)
-three-parts was a b c first second third =
-    third ∙ (ap (λ l. l ++ c) (second ∙ ap (λ l. l ++ b) first) ∙ simp append-assoc)

@@ -12,8 +12,8 @@ use Rattle.std.specs.Written.{decimal}
 use Rattle.std.specs.shelf.Lists.{ending, joined}
 use Rattle.meaning.specs.Base.{Bytes}
 use Rattle.meaning.specs.Values.{Value, null, num, word, Row}
-use Rattle.reference_planning.specs.declared.values.Value.{Value as CodeValue}
-use Rattle.reference_planning.specs.Values.{meant}
+use Rattle.reference_values.specs.declared.values.Value.{Value as CodeValue}
+use Rattle.reference_values.specs.Values.{meant}
 
 -- the seven bytes of a word, the first the highest digit of its number to base 256
 abbrev pub word-bytes : ℕ → Bytes

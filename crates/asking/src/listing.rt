@@ -4,12 +4,12 @@ ghost use mathlib.Core.List.{_++_, map};
 ghost use mathlib.Core.Path.{_≡_};
 ghost use Rattle.asking.specs.Listing.{behind-comma, line, listing, meant-row, shown, trimmed, word-bytes};
 ghost use Rattle.meaning.specs.Values.{word};
-ghost use Rattle.reference_planning.specs.Values.{meant};
+ghost use Rattle.reference_values.specs.Values.{meant};
 ghost use Rattle.std.specs.Of.Vec.{vec-items};
 ghost use Rattle.std.specs.Vec.{made};
 ghost use Rattle.std.specs.shelf.Lists.{joined};
 use reference::tables::*;
-use reference_planning::values::*;
+use reference_values::values::*;
 use std::alloc::AllocError;
 use std::alloc::Global;
 

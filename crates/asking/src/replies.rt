@@ -37,7 +37,7 @@ fn refused(heap: Global, text: &[u8], refusal: Refusal) -> Result<String, AllocE
 
 // The line for a page file that was cut off, or isn't one.
 fn broken(heap: Global, name: &str) -> Result<String, AllocError> {
-    let name = quoted(heap, name)?;
+    let name = quote(heap, name)?;
     format!(
         heap,
         "ask: {name} isn't a whole number of pages of 4096 bytes"
@@ -63,6 +63,6 @@ pub fn reply(heap: Global, text: &[u8], name: &str, pages: &[u8]) -> Result<Vec<
 
 // The line for a file that can't be read.
 pub fn cannot_read(heap: Global, name: &str, reason: &str) -> Result<String, AllocError> {
-    let name = quoted(heap, name)?;
+    let name = quote(heap, name)?;
     format!(heap, "ask: can't read {name}: {reason}")
 }

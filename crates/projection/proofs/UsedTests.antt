@@ -12,7 +12,7 @@ use Rattle.meaning.specs.Values.{Col, names-in}
 use Rattle.meaning.specs.Steps.{Decl, NamedAgg, Step, s-keep, s-make, s-pick, s-join, s-group, s-order, s-take, s-skip, s-unite, s-distinct, Table, col-names, key-names}
 use Rattle.meaning.specs.Plan.{cols-after, add-names, intersect, agg-names, used-aggs, used-before, used-of-named, used}
 use Rattle.projection.specs.Projected.{Scan, projected-next, projected-steps, named-amount, projected-total}
-use Rattle.projection.specs.Cells.{used-test, Used-by-tests, Join-used-by-tests}
+use Rattle.projection.specs.Cells.{used-test, Used-by-membership, Join-used-by-membership}
 use Rattle.meaning.proofs.Names.{or-false, In, bool-ext, same-is, in-filter, filter-in, filter-true}
 
 grown-is : (b : Bool) (x v : Bytes) (ws : List Bytes) → among v ws ≡ b → among x (cond b ws (v ∷ ws)) ≡ (same-bytes x v || among x ws)
@@ -49,23 +49,23 @@ used-aggs-is x us (a ∷ aggs) =
     (used-aggs-is x us aggs)
 
 -- what is used before a step
-pub used-by-tests : Used-by-tests
-used-by-tests cs (s-keep e) us x = add-names-is x (names-in e) us
-used-by-tests cs (s-make y e) us x =
+pub used-by-membership : Used-by-membership
+used-by-membership cs (s-keep e) us x = add-names-is x (names-in e) us
+used-by-membership cs (s-make y e) us x =
     elim (among y us) as (λ b. among x (cond b (add-names (names-in e) (filter (λ u. not (same-bytes u y)) us)) us) ≡ cond b (among x (names-in e) || (among x us && not (same-bytes x y))) (among x us)) [ true ↦ add-names-is x (names-in e) (filter (λ u. not (same-bytes u y)) us) ∙ ap (λ b. among x (names-in e) || b) (filter-is (λ u. not (same-bytes u y)) x us) | false ↦ refl ]
-used-by-tests cs (s-pick xs) us x = refl
-used-by-tests cs (s-join n y z stay) us x =
+used-by-membership cs (s-pick xs) us x = refl
+used-by-membership cs (s-join n y z stay) us x =
     add-names-is x (y ∷ []) (intersect us (col-names cs))
     ∙ ap₂ (λ a b. a || b) (or-false (same-bytes x y)) (filter-is (λ u. among u (col-names cs)) x us)
-used-by-tests cs (s-group xs aggs) us x = add-names-is x xs (used-aggs us aggs) ∙ ap (λ b. among x xs || b) (used-aggs-is x us aggs)
-used-by-tests cs (s-order ks) us x = add-names-is x (key-names ks) us
-used-by-tests cs (s-take n) us x = refl
-used-by-tests cs (s-skip n) us x = refl
-used-by-tests cs (s-unite n) us x = refl
-used-by-tests cs s-distinct us x = refl
+used-by-membership cs (s-group xs aggs) us x = add-names-is x xs (used-aggs us aggs) ∙ ap (λ b. among x xs || b) (used-aggs-is x us aggs)
+used-by-membership cs (s-order ks) us x = add-names-is x (key-names ks) us
+used-by-membership cs (s-take n) us x = refl
+used-by-membership cs (s-skip n) us x = refl
+used-by-membership cs (s-unite n) us x = refl
+used-by-membership cs s-distinct us x = refl
 
-pub join-used-by-tests : Join-used-by-tests
-join-used-by-tests es n y z stay us x =
+pub join-used-by-membership : Join-used-by-membership
+join-used-by-membership es n y z stay us x =
     add-names-is x (z ∷ []) (intersect us (col-names es))
     ∙ ap₂ (λ a b. a || b) (or-false (same-bytes x z)) (filter-is (λ u. among u (col-names es)) x us)
 

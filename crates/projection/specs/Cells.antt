@@ -95,12 +95,12 @@ used-test cs (s-unite n) us x = among x us
 used-test cs s-distinct us x = among x (col-names cs)
 
 -- what is used before a step can be told by these tests
-abbrev pub Used-by-tests : Type 0
-Used-by-tests =
+abbrev pub Used-by-membership : Type 0
+Used-by-membership =
     (cs : List Col) (s : Step) (us : List Bytes) (x : Bytes) → among x (used-before cs s us) ≡ used-test cs s us x
 
 -- so can what is used of the table that a join names
-abbrev pub Join-used-by-tests : Type 0
-Join-used-by-tests =
+abbrev pub Join-used-by-membership : Type 0
+Join-used-by-membership =
     (es : List Col) (n y z : Bytes) (stay : Bool) (us : List Bytes) (x : Bytes)
     → among x (used-of-named es (s-join n y z stay) us) ≡ (same-bytes x z || (among x us && among x (col-names es)))

@@ -1,5 +1,5 @@
 // A question run on projected tables, each cut down to the columns that are used from there on. Each function here carries a theorem, which is its contract, and does nothing else.
-ghost use Rattle.projection.specs.Cells.{«All-projected», «Get-by-place», «Group-by-cells», «Join-by-cells», «Join-used-by-tests», «Make-by-cells», «Place-projected», «Used-by-tests»};
+ghost use Rattle.projection.specs.Cells.{«All-projected», «Get-by-place», «Group-by-cells», «Join-by-cells», «Join-used-by-membership», «Make-by-cells», «Place-projected», «Used-by-membership»};
 ghost use Rattle.projection.specs.Course.{«Course-ends», «Course-starts», «Course-turns», «Turned-twice»};
 ghost use Rattle.projection.specs.Projected.{«Projected-answers», «Projected-reads», «Projected-totals»};
 
@@ -58,10 +58,10 @@ pub fn by_cells() -> u8
     0
 }
 
-// What is used before a step, and of the table that a join names, can be told by tests of what is used after it.
-pub fn by_tests() -> u8
-    ensures row { λ _. ⌜ «Used-by-tests» ⌝ }
-    ensures join { λ _. ⌜ «Join-used-by-tests» ⌝ }
+// What is used before a step, and of the table that a join names, can be told by membership in what is used after it.
+pub fn by_membership() -> u8
+    ensures row { λ _. ⌜ «Used-by-membership» ⌝ }
+    ensures join { λ _. ⌜ «Join-used-by-membership» ⌝ }
 {
     0
 }

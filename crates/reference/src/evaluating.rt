@@ -1,6 +1,6 @@
 // Postfix code on a row.
 use reference_planning::plans::*;
-use reference_planning::values::*;
+use reference_values::values::*;
 use std::alloc::AllocError;
 
 pub fn cell(row: &[Value], column: usize) -> Value {
@@ -21,7 +21,7 @@ fn execute(instruction: Instruction, row: &[Value], stack: &mut Vec<Value>) -> V
             Value::apply(operator, left, right)
         }
         Instruction::Not => top(stack).not(),
-        Instruction::IsNull => Value::of_test(top(stack).is_null()),
+        Instruction::IsNull => Value::of_bool(top(stack).is_null()),
         Instruction::Choose => {
             let no = top(stack);
             let yes = top(stack);

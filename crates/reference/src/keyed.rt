@@ -3,7 +3,7 @@ use crate::evaluating::*;
 use crate::steps::*;
 use crate::tables::*;
 use reference_planning::plans::*;
-use reference_planning::values::*;
+use reference_values::values::*;
 use std::alloc::AllocError;
 use std::alloc::Global;
 use std::cmp::Reverse;

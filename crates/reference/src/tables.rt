@@ -1,6 +1,6 @@
 // Tables, from their columns on pages to rows.
-use reference_planning::values::*;
 use reference_reading::questions::*;
+use reference_values::values::*;
 use std::alloc::AllocError;
 use std::alloc::Global;
 

@@ -6,9 +6,9 @@ ghost use Rattle.std.specs.Slices.{found};
 ghost use Rattle.std.specs.Vec.{made};
 use crate::faults::*;
 use crate::plans::*;
-use crate::values::*;
 use reference_reading::questions::*;
 use reference_reading::spans::*;
+use reference_values::values::*;
 use std::alloc::Global;
 
 pub fn find_column(text: &[u8], columns: &[Column], name: Span) -> Option<usize>

@@ -5,6 +5,5 @@ pub mod faults;
 mod fitting;
 mod planning;
 pub mod plans;
-pub mod values;
 
 pub use planning::plan;

@@ -1,9 +1,9 @@
 // A sound question with its names replaced by positions.
 ghost use Prim.Native.Nat.{_≤_};
 ghost use Rattle.std.specs.Of.Vec.{vec-len};
-use crate::values::*;
 use reference_reading::questions::*;
 use reference_reading::spans::*;
+use reference_values::values::*;
 
 // An instruction of postfix code.
 #[derive(Clone, Copy)]

@@ -37,59 +37,50 @@ const SUM: u8 = 4;
 
 const PRODUCT: u8 = 5;
 
-impl Operator {
-    fn level(self) -> u8 {
-        match self {
-            Operator::Or => OR,
-            Operator::And => AND,
-            Operator::Equal => COMPARISON,
-            Operator::Differ => COMPARISON,
-            Operator::Less => COMPARISON,
-            Operator::AtMost => COMPARISON,
-            Operator::Add => SUM,
-            Operator::Subtract => SUM,
-            Operator::Multiply => PRODUCT,
-            Operator::Divide => PRODUCT,
-            Operator::Remainder => PRODUCT,
-        }
+fn level(operator: Operator) -> u8 {
+    match operator {
+        Operator::Or => OR,
+        Operator::And => AND,
+        Operator::Equal => COMPARISON,
+        Operator::Differ => COMPARISON,
+        Operator::Less => COMPARISON,
+        Operator::AtMost => COMPARISON,
+        Operator::Add => SUM,
+        Operator::Subtract => SUM,
+        Operator::Multiply => PRODUCT,
+        Operator::Divide => PRODUCT,
+        Operator::Remainder => PRODUCT,
     }
+}
 
-    fn from_token(token: Token) -> Option<Operator> {
-        match token {
-            Token::Keyword(keyword) => Operator::from_keyword(keyword),
-            Token::Sign(sign) => Operator::from_sign(sign),
-            _ => None,
-        }
+fn sign_operator(sign: Sign) -> Option<Operator> {
+    match sign {
+        Sign::Equal => Some(Operator::Equal),
+        Sign::Differ => Some(Operator::Differ),
+        Sign::Less => Some(Operator::Less),
+        Sign::AtMost => Some(Operator::AtMost),
+        Sign::Plus => Some(Operator::Add),
+        Sign::Minus => Some(Operator::Subtract),
+        Sign::Times => Some(Operator::Multiply),
+        Sign::Over => Some(Operator::Divide),
+        Sign::Percent => Some(Operator::Remainder),
+        _ => None,
     }
+}
 
-    fn from_keyword(keyword: Keyword) -> Option<Operator> {
-        match keyword {
-            Keyword::Or => Some(Operator::Or),
-            Keyword::And => Some(Operator::And),
-            _ => None,
-        }
-    }
-
-    fn from_sign(sign: Sign) -> Option<Operator> {
-        match sign {
-            Sign::Equal => Some(Operator::Equal),
-            Sign::Differ => Some(Operator::Differ),
-            Sign::Less => Some(Operator::Less),
-            Sign::AtMost => Some(Operator::AtMost),
-            Sign::Plus => Some(Operator::Add),
-            Sign::Minus => Some(Operator::Subtract),
-            Sign::Times => Some(Operator::Multiply),
-            Sign::Over => Some(Operator::Divide),
-            Sign::Percent => Some(Operator::Remainder),
-            _ => None,
-        }
+fn infix_operator(token: Token) -> Option<Operator> {
+    match token {
+        Token::Keyword(Keyword::Or) => Some(Operator::Or),
+        Token::Keyword(Keyword::And) => Some(Operator::And),
+        Token::Sign(sign) => sign_operator(sign),
+        _ => None,
     }
 }
 
 impl Mark {
     fn level(self) -> u8 {
         match self {
-            Mark::Operator(operator) => operator.level(),
+            Mark::Operator(operator) => level(operator),
             Mark::Not => COMPARISON,
             _ => OPEN,
         }
@@ -171,7 +162,7 @@ impl Builder {
     fn may_compare(&self) -> bool {
         match self.marks.last() {
             Some(mark) => match *mark {
-                Mark::Operator(operator) => operator.level() < COMPARISON,
+                Mark::Operator(operator) => level(operator) < COMPARISON,
                 _ => true,
             },
             None => true,
@@ -188,14 +179,14 @@ impl Builder {
     }
 
     fn operator(&mut self, piece: Piece) -> Result<(), Fault> {
-        match Operator::from_token(piece.token) {
+        match infix_operator(piece.token) {
             Some(operator) => self.infix(operator, piece),
             None => self.close(piece),
         }
     }
 
     fn infix(&mut self, operator: Operator, piece: Piece) -> Result<(), Fault> {
-        let level = operator.level();
+        let level = level(operator);
         if level == COMPARISON {
             self.settle(SUM)?;
             if !self.may_compare() {

@@ -1,11 +1,8 @@
 // A question as it was read: its tables, the one that it begins with, its steps. Names are parts of the text.
 use crate::spans::*;
-
-#[derive(Clone, Copy, PartialEq, Eq)]
-pub enum Kind {
-    Num,
-    Word,
-}
+pub use reference_values::kinds::Kind;
+pub use reference_values::kinds::KindPartialEq;
+pub use reference_values::kinds::Operator;
 
 #[derive(Clone, Copy)]
 pub struct Column {
@@ -26,21 +23,6 @@ pub struct TableDecl {
     pub name: Span,
     pub rows: u64,
     pub columns: Vec<StoredColumn>,
-}
-
-#[derive(Clone, Copy)]
-pub enum Operator {
-    Add,
-    Subtract,
-    Multiply,
-    Divide,
-    Remainder,
-    Equal,
-    Differ,
-    Less,
-    AtMost,
-    And,
-    Or,
 }
 
 // An item of postfix code: a value that goes onto the stack, or what is done with those on top of it.

@@ -1,7 +1,7 @@
 use mathlib.Core.List.{[], _++_, map}
 use mathlib.Core.Path.{ap, _∙_}
 use Rattle.std.specs.Of.Vec.{vec-items}
-use Rattle.reference_planning.specs.Values.{meant}
+use Rattle.reference_values.specs.Values.{meant}
 use Rattle.asking.specs.Listing.{line, meant-row}
 use Rattle.asking.proofs.Joining.{joined-step, joined-all}
 use Rattle.asking.proofs.listing.list_rows.Needs as need

@@ -3,8 +3,8 @@ use mathlib.Core.Path.{ap, _∙_}
 use lib.Chars.{codes}
 use lib.ListN.{getD}
 use Rattle.std.specs.Of.Vec.{vec-items}
-use Rattle.reference_planning.specs.declared.values.Value.the-variants.{Null}
-use Rattle.reference_planning.specs.Values.{meant}
+use Rattle.reference_values.specs.declared.values.Value.the-variants.{Null}
+use Rattle.reference_values.specs.Values.{meant}
 use Rattle.asking.specs.Listing.{behind-comma, shown}
 use Rattle.asking.proofs.Joining.{joined-step, joined-all}
 use Rattle.asking.proofs.listing.push_more.Needs as need

@@ -3,7 +3,7 @@ use mathlib.Core.Path.{_≡_}
 use lib.ListN.{take}
 use Rattle.std.specs.Of.Vec.{vec-items}
 use Rattle.std.specs.shelf.Lists.{joined}
-use Rattle.reference_planning.specs.Values.{meant}
+use Rattle.reference_values.specs.Values.{meant}
 use Rattle.asking.specs.Listing.{behind-comma}
 use Rattle.asking.proofs.listing.push_more.Given as given
 

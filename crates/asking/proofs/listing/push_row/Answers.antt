@@ -3,9 +3,9 @@ use mathlib.Core.Path.{_≡_, ap, sym, _∙_}
 use lib.Chars.{codes}
 use Rattle.std.specs.Of.Vec.{vec-items}
 use Rattle.std.proofs.shelf.Lists.{nil-from-length}
-use Rattle.reference_planning.specs.Values.{meant}
+use Rattle.reference_values.specs.Values.{meant}
 use Rattle.asking.specs.Listing.{line}
-use Rattle.asking.proofs.Joining.{three-parts}
+use Rattle.reference_reading.proofs.Joining.{three-parts}
 use Rattle.asking.proofs.listing.push_row.Needs as need
 use Rattle.asking.proofs.listing.push_row.Needs.{in-Some·in-Continue-push-value·in-Continue-push-more, in-rest}
 

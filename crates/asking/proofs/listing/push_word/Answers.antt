@@ -4,7 +4,7 @@ use lib.Chars.{codes}
 use lib.ListN.{take, drop}
 use Rattle.std.specs.Of.Vec.{vec-items}
 use Rattle.asking.specs.Listing.{trimmed, word-bytes}
-use Rattle.asking.proofs.Joining.{three-parts}
+use Rattle.reference_reading.proofs.Joining.{three-parts}
 use Rattle.asking.proofs.listing.push_word.Needs as need
 
 pub returns : need.returns

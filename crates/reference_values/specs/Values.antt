@@ -2,14 +2,14 @@
 use Prim.Native.Nat.{ℕ}
 use Rattle.meaning.specs.Base.{map-or}
 use Rattle.meaning.specs.Values.{Value as MeantValue, null, num, word, Ty, t-num, t-word, Truth as MeantTruth, yes, no, unknown, Op, op-arith, op-compare, op-logic, op-add, op-sub, op-mul, op-div, op-rem, op-eq, op-ne, op-lt, op-le, op-and, op-or, cell-value, by-arith, by-compare, bit}
-use Rattle.reference_reading.specs.declared.questions.Kind.{Kind}
-use Rattle.reference_reading.specs.declared.questions.Kind.the-variants.{Num as NumKind, Word as WordKind}
-use Rattle.reference_reading.specs.declared.questions.Operator.{Operator}
-use Rattle.reference_reading.specs.declared.questions.Operator.the-variants.{Add, Subtract, Multiply, Divide, Remainder, Equal, Differ, Less, AtMost, And, Or}
-use Rattle.reference_planning.specs.declared.values.Truth.{Truth}
-use Rattle.reference_planning.specs.declared.values.Truth.the-variants.{True, False, Unknown}
-use Rattle.reference_planning.specs.declared.values.Value.{Value}
-use Rattle.reference_planning.specs.declared.values.Value.the-variants.{Null, Number, Word}
+use Rattle.reference_values.specs.declared.kinds.Kind.{Kind}
+use Rattle.reference_values.specs.declared.kinds.Kind.the-variants.{Num as NumKind, Word as WordKind}
+use Rattle.reference_values.specs.declared.kinds.Operator.{Operator}
+use Rattle.reference_values.specs.declared.kinds.Operator.the-variants.{Add, Subtract, Multiply, Divide, Remainder, Equal, Differ, Less, AtMost, And, Or}
+use Rattle.reference_values.specs.declared.values.Truth.{Truth}
+use Rattle.reference_values.specs.declared.values.Truth.the-variants.{True, False, Unknown}
+use Rattle.reference_values.specs.declared.values.Value.{Value}
+use Rattle.reference_values.specs.declared.values.Value.the-variants.{Null, Number, Word}
 
 -- the value that a value of the code stands for
 abbrev pub meant : Value → MeantValue

@@ -3,8 +3,8 @@ ghost use mathlib.Core.Bool.{not};
 ghost use mathlib.Core.Path.{_≡_};
 ghost use Rattle.meaning.specs.Steps.{add-to-sum, is-true, not-null};
 ghost use Rattle.meaning.specs.Values.{and3, apply-op, bit, if3, is-null, not3, num-or-null, of-truth, or3, truth};
-ghost use Rattle.reference_planning.specs.Values.{compared, computed, meant, meant-op, meant-truth, meant-type, stored};
-use reference_reading::questions::*;
+ghost use Rattle.reference_values.specs.Values.{compared, computed, meant, meant-op, meant-truth, meant-type, stored};
+use crate::kinds::*;
 
 #[derive(Clone, Copy, PartialEq, Eq, PartialOrd, Ord, Debug)]
 pub enum Value {
@@ -106,7 +106,7 @@ impl Value {
 
     pub fn is_null(self) -> bool
         ensures value { λ r. ⌜ bit r ≡ is-null (meant self) ⌝ }
-        ensures test { λ r. ⌜ not-null (meant self) ≡ not r ⌝ }
+        ensures there { λ r. ⌜ not-null (meant self) ≡ not r ⌝ }
     {
         matches!(self, Value::Null)
     }
@@ -128,7 +128,7 @@ impl Value {
     }
 
     // 1 or 0
-    pub fn of_test(holds: bool) -> Value
+    pub fn of_bool(holds: bool) -> Value
         ensures { λ r. ⌜ meant r ≡ bit holds ⌝ }
     {
         Value::Number(u64::from(holds))
@@ -149,10 +149,10 @@ impl Value {
         ensures { λ r. ⌜ meant r ≡ compared (meant-op operator) a b ⌝ }
     {
         match operator {
-            Operator::Equal => Value::of_test(a == b),
-            Operator::Differ => Value::of_test(a != b),
-            Operator::Less => Value::of_test(a < b),
-            Operator::AtMost => Value::of_test(a <= b),
+            Operator::Equal => Value::of_bool(a == b),
+            Operator::Differ => Value::of_bool(a != b),
+            Operator::Less => Value::of_bool(a < b),
+            Operator::AtMost => Value::of_bool(a <= b),
             _ => Value::Null,
         }
     }
