@@ -1,0 +1,4 @@
+pub mod Postfix
+pub mod Words
+pub mod Views
+pub mod Room

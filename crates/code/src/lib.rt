@@ -1,0 +1,4 @@
+// Expressions as postfix code in lent words.
+pub mod code;
+pub mod instruction;
+pub mod writing;

@@ -1,0 +1,3 @@
+pub mod Names
+pub mod ProjectedCode
+pub mod TypedNames

@@ -1,0 +1,4 @@
+pub mod Stacked
+pub mod Rows
+pub mod Turns
+pub mod Means

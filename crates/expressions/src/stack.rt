@@ -1,0 +1,11 @@
+ghost use denote.Ref.{now};
+ghost use Prim.Native.Nat.{_≤_};
+ghost use lib.ListN.{length};
+
+// A stack in lent words, of values as cells or of types.
+#[derive(Drop)]
+pub struct Stack<'a> {
+    pub words: &'a mut [u64],
+    pub depth: usize,
+    ghost within: { depth ≤ length (now words) },
+}
