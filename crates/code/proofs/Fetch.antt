@@ -5,13 +5,13 @@ use Prim.Native.Nat.{ℕ, suc, _+_, _*_, _/_, _<_, _≤_}
 use native.Mathlib.Omega.{arith}
 use lib.ListN.{length, getD, drop, length-drop}
 use lib.Seq.{drop-cons}
-use Rattle.code.specs.Words.{unpacked, unpack-all, code-from, code-in}
+use Rattle.code.specs.Words.{instruction-at, unpack-all, code-from, code-in}
 
 pub from-start : (ws : List ℕ) → code-from ws 0 ≡ code-in ws
 unfolding code-from code-in
 from-start ws = refl
 
-pub fetched : (ws : List ℕ) (i : ℕ) → i < length ws / 2 → code-from ws i ≡ unpacked (getD ws (2 * i) 0) (getD ws (2 * i + 1) 0) ∷ code-from ws (i + 1)
+pub fetched : (ws : List ℕ) (i : ℕ) → i < length ws / 2 → code-from ws i ≡ instruction-at ws i ∷ code-from ws (i + 1)
 unfolding code-from
 fetched ws i h =
     let a : drop (2 * i) ws ≡ getD ws (2 * i) 0 ∷ drop (suc (2 * i)) ws = drop-cons ws (2 * i) 0 (omega arith) in

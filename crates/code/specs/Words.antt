@@ -1,8 +1,8 @@
 -- Code in words, two to an instruction: the operation and its operand.
 use mathlib.Core.Bool.{cond}
 use mathlib.Core.List.{List, [], _∷_}
-use Prim.Native.Nat.{ℕ, _*_}
-use lib.ListN.{drop}
+use Prim.Native.Nat.{ℕ, _+_, _*_}
+use lib.ListN.{getD, drop}
 use lib.Dec.{eqb, ltb}
 use Rattle.meaning.specs.Values.{t-num, t-word, num-limit, word-limit, op-arith, op-compare, op-logic, op-add, op-sub, op-mul, op-div, op-rem, op-eq, op-ne, op-lt, op-le, op-and, op-or}
 use Rattle.values.specs.Types.{type-of-kind, op-of}
@@ -33,6 +33,10 @@ unpacked t a =
     (cond (eqb t 12) (i-op (op-compare op-lt)) (cond (eqb t 13) (i-op (op-compare op-le))
     (cond (eqb t 14) (i-op (op-logic op-and)) (cond (eqb t 15) (i-op (op-logic op-or))
     (cond (eqb t 16) i-not (cond (eqb t 17) i-none i-if)))))))))))))))))
+
+-- the i-th instruction in words
+abbrev pub instruction-at : List ℕ → ℕ → Instr ℕ
+instruction-at ws i = unpacked (getD ws (2 * i) 0) (getD ws (2 * i + 1) 0)
 
 -- the instructions in words, one after the other
 abbrev pub unpack-all : List ℕ → List (Instr ℕ)

@@ -13,7 +13,7 @@ ghost use Rattle.values.specs.Types.{op-of};
 ghost use Rattle.code.specs.Postfix.{i-op};
 ghost use Rattle.code.specs.Words.{instr-of, unpacked};
 
-// What is done at one place of an expression's code, with values on a stack.
+// An instruction of postfix code: what is done with the values on a stack.
 #[derive(Clone, Copy)]
 pub enum Instruction {
     Number(Number),
@@ -28,7 +28,7 @@ pub enum Instruction {
 
 impl Instruction {
     // From two words, the operation and its operand; a constant that is no value is null.
-    pub fn unpack(operation: u64, operand: u64) -> Instruction
+    pub(crate) fn unpack(operation: u64, operand: u64) -> Instruction
         ensures { λ r. ⌜ instr-of r ≡ unpacked operation operand ⌝ }
     {
         match operation {
@@ -55,7 +55,7 @@ impl Instruction {
     }
 
     // The two words of an instruction.
-    pub fn pack(self) -> (u64, u64)
+    pub(crate) fn pack(self) -> (u64, u64)
         ensures { λ r. ⌜ unpacked (r .0) (r .1) ≡ instr-of self ⌝ }
     {
         match self {

@@ -1,8 +1,8 @@
 use crate::code::Code;
 use crate::instruction::Instruction;
 ghost use mathlib.Core.Path.{_≡_};
-ghost use mathlib.Core.List.{List, [], _∷_, _++_};
-ghost use Prim.Native.Nat.{ℕ, _+_, _*_, _≤_};
+ghost use mathlib.Core.List.{[], _∷_, _++_};
+ghost use Prim.Native.Nat.{_+_, _*_, _≤_};
 ghost use lib.ListN.{length};
 ghost use Rattle.code.specs.Words.{instr-of, code-in};
 ghost use Rattle.code.specs.Views.{code-on};

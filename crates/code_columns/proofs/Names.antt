@@ -3,17 +3,17 @@ use mathlib.Core.Path.{_≡_, refl, sym, _∙_, ap, ap₂}
 use mathlib.Core.Bool.{Bool, true, false, _||_}
 use mathlib.Core.List.{List, [], _∷_, _++_}
 use mathlib.Core.Option.{some}
-use Prim.Native.Nat.{ℕ, zero, suc, _+_, _*_, _/_, _<_, _≤_}
+use Prim.Native.Nat.{ℕ, zero, suc, _+_, _/_, _<_, _≤_}
 use native.Mathlib.Omega.{arith}
-use lib.ListN.{length, getD}
+use lib.ListN.{length}
 use lib.Dec.{eqb}
 use Rattle.meaning.specs.Base.{each, nth, any, Bytes, same-bytes, all-different}
 use Rattle.meaning.specs.Values.{Expr, e-num, e-word, e-null, e-col, e-op, e-not, e-none, e-if, Col, names-in}
 use Rattle.meaning.specs.Steps.{col-names}
 use Rattle.meaning.proofs.Names.{or-false}
 use Rattle.column_set.specs.Membership.{has, Marks}
-use Rattle.code.specs.Postfix.{Instr, i-num, i-word, i-null, i-col, i-op, i-not, i-none, i-if, postfix, map-col, col-index, code-for}
-use Rattle.code.specs.Words.{unpacked, code-from, code-in}
+use Rattle.code.specs.Postfix.{Instr, i-op, i-not, i-none, i-if, postfix, map-col, col-index, code-for}
+use Rattle.code.specs.Words.{instruction-at, code-from, code-in}
 use Rattle.code.proofs.Fetch.{from-start, fetched, fetched-all}
 use Rattle.code.proofs.ColIndex.{index-is}
 use Rattle.code_columns.specs.Columns.{names-col}
@@ -67,8 +67,8 @@ marks-named cs e bits o h k c n = h k (nth-below cs k c n) ∙ (any-each (names-
 pub names-start : (ws : List ℕ) (bits : ℕ) → ((k : ℕ) → has bits k ≡ false) → (k : ℕ) → (has bits k || any (names-col k) (code-from ws 0)) ≡ any (names-col k) (code-in ws)
 names-start ws bits h k = ap₂ (λ a c. a || any (names-col k) c) (h k) (from-start ws)
 
-pub names-turn : (ws : List ℕ) (i : ℕ) (x : Instr ℕ) (k a b : ℕ) (all : Bool) → i < length ws / 2 → x ≡ unpacked (getD ws (2 * i) 0) (getD ws (2 * i + 1) 0) → has b k ≡ (names-col k x || has a k) → (has a k || any (names-col k) (code-from ws i)) ≡ all → (has b k || any (names-col k) (code-from ws (i + 1))) ≡ all
-names-turn ws i x k a b all l e h p = ap (λ z. z || any (names-col k) (code-from ws (i + 1))) (h ∙ ap (λ y. names-col k y || has a k) e) ∙ (turn (names-col k (unpacked (getD ws (2 * i) 0) (getD ws (2 * i + 1) 0))) (has a k) (any (names-col k) (code-from ws (i + 1))) ∙ (sym (ap (λ c. has a k || any (names-col k) c) (fetched ws i l)) ∙ p))
+pub names-turn : (ws : List ℕ) (i : ℕ) (x : Instr ℕ) (k a b : ℕ) (all : Bool) → i < length ws / 2 → x ≡ instruction-at ws i → has b k ≡ (names-col k x || has a k) → (has a k || any (names-col k) (code-from ws i)) ≡ all → (has b k || any (names-col k) (code-from ws (i + 1))) ≡ all
+names-turn ws i x k a b all l e h p = ap (λ z. z || any (names-col k) (code-from ws (i + 1))) (h ∙ ap (λ y. names-col k y || has a k) e) ∙ (turn (names-col k (instruction-at ws i)) (has a k) (any (names-col k) (code-from ws (i + 1))) ∙ (sym (ap (λ c. has a k || any (names-col k) c) (fetched ws i l)) ∙ p))
   where
     turn : (x y z : Bool) → ((x || y) || z) ≡ (y || (x || z))
     turn true true z = refl

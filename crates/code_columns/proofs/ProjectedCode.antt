@@ -1,13 +1,10 @@
 -- Code over a table's columns, and over those that are used.
 use mathlib.Core.Path.{_≡_, refl, sym, _∙_, ap, ap₂}
-use mathlib.Core.Logic.{_≢_}
-use mathlib.Core.Bool.{Bool, true, false, cond, _||_}
+use mathlib.Core.Bool.{true, false, cond, _||_}
 use mathlib.Core.List.{List, [], _∷_, _++_}
-use Prim.Native.Nat.{ℕ, zero, suc, _+_, _*_, _/_, _<_, _≤_}
+use Prim.Native.Nat.{ℕ, suc, _+_, _*_, _/_, _<_}
 use native.Mathlib.Omega.{arith}
-use lib.ListN.{length, getD, take, set, length-set}
-use lib.Seq.{getD-set-same, getD-set-other}
-use lib.Dec.{ltb}
+use lib.ListN.{length, getD, take}
 use Rattle.std.proofs.shelf.Tests.{lt-ltb, or-left, or-right}
 use Rattle.meaning.specs.Base.{each, Bytes, among, same-bytes}
 use Rattle.meaning.specs.Values.{Expr, e-num, e-word, e-null, e-col, e-op, e-not, e-none, e-if, Col, names-in}
@@ -15,8 +12,8 @@ use Rattle.meaning.proofs.Names.{same-is, same-self}
 use Rattle.projection.specs.Projected.{project-cols}
 use Rattle.column_set.specs.Membership.{count-before, Marks}
 use Rattle.column_set.proofs.Places.{before-projected}
-use Rattle.code.specs.Postfix.{Instr, i-num, i-word, i-null, i-col, i-op, i-not, i-none, i-if, postfix, map-col, col-index, code-for}
-use Rattle.code.specs.Words.{unpacked, unpack-all, code-in}
+use Rattle.code.specs.Postfix.{Instr, i-col, i-op, i-not, i-none, i-if, postfix, map-col, col-index, code-for}
+use Rattle.code.specs.Words.{unpacked, instruction-at, unpack-all, code-in}
 use Rattle.code_columns.specs.Columns.{new-index, Names-used}
 
 -- all of them
@@ -26,13 +23,10 @@ next k = omega arith
 next1 : (k : ℕ) → 2 * suc k + 1 ≡ suc (suc (2 * k + 1))
 next1 k = omega arith
 
-abbrev pub at-k : List ℕ → ℕ → Instr ℕ
-at-k ws k = unpacked (getD ws (2 * k) 0) (getD ws (2 * k + 1) 0)
-
-at-next : (t a : ℕ) (ws : List ℕ) (k : ℕ) → at-k (t ∷ (a ∷ ws)) (suc k) ≡ at-k ws k
+at-next : (t a : ℕ) (ws : List ℕ) (k : ℕ) → instruction-at (t ∷ (a ∷ ws)) (suc k) ≡ instruction-at ws k
 at-next t a ws k = ap₂ (λ i j. unpacked (getD (t ∷ (a ∷ ws)) i 0) (getD (t ∷ (a ∷ ws)) j 0)) (next k) (next1 k)
 
-unpack-each : (f : ℕ → ℕ) (ws vs : List ℕ) → length vs ≡ length ws → ((k : ℕ) → k < length ws / 2 → at-k vs k ≡ map-col f (at-k ws k)) → unpack-all vs ≡ each (map-col f) (unpack-all ws)
+unpack-each : (f : ℕ → ℕ) (ws vs : List ℕ) → length vs ≡ length ws → ((k : ℕ) → k < length ws / 2 → instruction-at vs k ≡ map-col f (instruction-at ws k)) → unpack-all vs ≡ each (map-col f) (unpack-all ws)
 unpack-each f [] [] l h = refl
 unpack-each f [] (v ∷ vs) l h = absurd (omega arith)
 unpack-each f (t ∷ []) [] l h = absurd (omega arith)
@@ -42,25 +36,9 @@ unpack-each f (t ∷ (a ∷ ws)) [] l h = absurd (omega arith)
 unpack-each f (t ∷ (a ∷ ws)) (v ∷ []) l h = absurd (omega arith)
 unpack-each f (t ∷ (a ∷ ws)) (v ∷ (u ∷ vs)) l h = ap₂ (λ x c. x ∷ c) (h 0 (omega arith)) (unpack-each f ws vs (omega arith) (λ k q. sym (at-next v u vs k) ∙ (h (suc k) (omega arith) ∙ ap (map-col f) (at-next t a ws k))))
 
-pub code-each : (f : ℕ → ℕ) (ws vs : List ℕ) → length vs ≡ length ws → ((k : ℕ) → k < length ws / 2 → at-k vs k ≡ map-col f (at-k ws k)) → code-in vs ≡ each (map-col f) (code-in ws)
+pub code-each : (f : ℕ → ℕ) (ws vs : List ℕ) → length vs ≡ length ws → ((k : ℕ) → k < length ws / 2 → instruction-at vs k ≡ map-col f (instruction-at ws k)) → code-in vs ≡ each (map-col f) (code-in ws)
 unfolding code-in
 code-each f ws vs l h = unpack-each f ws vs l h
-
--- a turn: two words are written
-kept : (vs : List ℕ) (i k t a : ℕ) → k ≢ 2 * i → k ≢ 2 * i + 1 → getD (set (set vs (2 * i) t) (2 * i + 1) a) k 0 ≡ getD vs k 0
-kept vs i k t a p q = getD-set-other (set vs (2 * i) t) (2 * i + 1) k a 0 q ∙ getD-set-other vs (2 * i) k t 0 p
-
-pub kept-low : (vs : List ℕ) (i k t a : ℕ) → k < i → at-k (set (set vs (2 * i) t) (2 * i + 1) a) k ≡ at-k vs k
-kept-low vs i k t a h = ap₂ unpacked (kept vs i (2 * k) t a (omega arith) (omega arith)) (kept vs i (2 * k + 1) t a (omega arith) (omega arith))
-
-pub new-one : (vs : List ℕ) (i t a : ℕ) → 2 * i + 1 < length vs → at-k (set (set vs (2 * i) t) (2 * i + 1) a) i ≡ unpacked t a
-new-one vs i t a h =
-    ap₂ unpacked
-    (getD-set-other (set vs (2 * i) t) (2 * i + 1) (2 * i) a 0 (omega arith) ∙ getD-set-same vs (2 * i) t 0 (omega arith))
-    (getD-set-same (set vs (2 * i) t) (2 * i + 1) a 0 (simp length-set h))
-
-pub kept-high : (vs : List ℕ) (i k t a : ℕ) → 2 * (i + 1) ≤ k → getD (set (set vs (2 * i) t) (2 * i + 1) a) k 0 ≡ getD vs k 0
-kept-high vs i k t a h = kept vs i k t a (omega arith) (omega arith)
 
 -- where a column stands in a table that has only the columns used
 pub index-projected : (us : List Bytes) (x : Bytes) → among x us ≡ true → (cs : List Col) → col-index (project-cols us cs) x ≡ length (project-cols us (take (col-index cs x) cs))

@@ -1,7 +1,7 @@
 -- The names in an expression that has a type are those of columns.
-use mathlib.Core.Path.{_≡_, refl, sym, _∙_, ap, subst}
+use mathlib.Core.Path.{_≡_, refl, sym, subst}
 use mathlib.Core.Logic.{_⊎_, inl, inr, ⊎-elim}
-use mathlib.Core.Bool.{Bool, true, false, cond, _||_}
+use mathlib.Core.Bool.{Bool, true, false}
 use mathlib.Core.List.{List, [], _∷_, _++_}
 use mathlib.Core.Option.{Option, some, none}
 use Prim.Native.Nat.{ℕ, _<_}
@@ -9,7 +9,7 @@ use native.Mathlib.Omega.{arith}
 use lib.ListN.{length}
 use Rattle.std.proofs.shelf.Tests.{or-cases, or-left, or-right, true≢false}
 use Rattle.meaning.specs.Base.{and-then, when, Bytes, same-bytes, among}
-use Rattle.meaning.specs.Values.{Ty, t-num, t-word, same-type, Op, op-arith as on-numbers, op-compare, op-logic, Expr, e-num, e-word, e-null, e-col, e-op, e-not, e-none, e-if, Col, col-type, expect-type, op-type, type-of, names-in}
+use Rattle.meaning.specs.Values.{Ty, t-num, same-type, Op, op-arith as on-numbers, op-compare, op-logic, Expr, e-num, e-word, e-null, e-col, e-op, e-not, e-none, e-if, Col, col-type, expect-type, op-type, type-of, names-in}
 use Rattle.meaning.proofs.Names.{same-is}
 use Rattle.code.specs.Postfix.{col-index}
 use Rattle.code.proofs.ColIndex.{index-found}
@@ -48,8 +48,8 @@ module _ (cs : List Col) (x : Bytes) where
   abbrev There : Type 0
   There = col-index cs x < length cs
 
-  has-place : (y : Bytes) → Some (col-type cs y) → among x (y ∷ []) ≡ true → There
-  has-place y p h =
+  has-index : (y : Bytes) → Some (col-type cs y) → among x (y ∷ []) ≡ true → There
+  has-index y p h =
       let e : x ≡ y = ⊎-elim (λ g. same-is x y g) (λ g. absurd (true≢false (sym g))) (or-cases (same-bytes x y) false h) in
       subst (λ z. col-index cs z < length cs) (sym e) (⊎-elim (λ q. q .3) (λ q. absurd (let a = q .1 in let b = p .1 in let z : _≡_ {A = ℕ} 0 1 = cc in omega arith)) (index-found cs y))
 
@@ -57,7 +57,7 @@ module _ (cs : List Col) (x : Bytes) where
   typed-there (e-num n) p h = absurd (true≢false (sym h))
   typed-there (e-word n) p h = absurd (true≢false (sym h))
   typed-there (e-null t) p h = absurd (true≢false (sym h))
-  typed-there (e-col y) p h = has-place y p h
+  typed-there (e-col y) p h = has-index y p h
   typed-there (e-op o a b) p h = let q = op-both o (type-of cs a) (type-of cs b) p in ⊎-elim (typed-there a (q .0)) (typed-there b (q .1)) (among-cases x (names-in a) (names-in b) h)
   typed-there (e-not a) p h = typed-there a (want-left (type-of cs a) t-num (some t-num) p) h
   typed-there (e-none a) p h = typed-there a (from-on (type-of cs a) (λ t. some t-num) p) h

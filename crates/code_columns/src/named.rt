@@ -27,7 +27,7 @@ pub fn columns_named(code: &[u64], width: u32) -> ColumnSet
 {
     let mut set = ColumnSet::empty(width);
     for i in 0..code.len() / 2 {
-        let instruction = Instruction::unpack(code[2 * i], code[2 * i + 1]);
+        let instruction = Instruction::fetch(code, i);
         insert_column(instruction, &mut set);
     }
     set

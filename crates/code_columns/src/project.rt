@@ -1,7 +1,7 @@
 use code::instruction::Instruction;
 use column_set::ColumnSet;
 ghost use mathlib.Core.Path.{_≡_};
-ghost use Prim.Native.Nat.{ℕ, _<_};
+ghost use Prim.Native.Nat.{_<_};
 ghost use Rattle.code.specs.Postfix.{map-col};
 ghost use Rattle.code.specs.Words.{instr-of};
 ghost use Rattle.code_columns.specs.Columns.{new-index, Projected};
@@ -27,9 +27,7 @@ pub fn project(code: &mut [u64], used: ColumnSet)
     ensures { λ _. ⌜ Projected (now (code .entry)) (used .bits) (used .width) (now (code .exit)) ⌝ }
 {
     for i in 0..code.len() / 2 {
-        let instruction = Instruction::unpack(code[2 * i], code[2 * i + 1]);
-        let (operation, operand) = project_one(instruction, used).pack();
-        code[2 * i] = operation;
-        code[2 * i + 1] = operand;
+        let instruction = project_one(Instruction::fetch(code, i), used);
+        instruction.store(code, i);
     }
 }

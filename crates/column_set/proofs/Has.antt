@@ -2,14 +2,14 @@
 use mathlib.Core.Path.{_≡_, refl, sym, _∙_, ap, ap₂, subst}
 use mathlib.Core.Logic.{_≢_, _⊎_, inl, inr, ⊎-elim}
 use mathlib.Core.Bool.{Bool, true, false, cond, _&&_, _||_, not}
-use Prim.Native.Nat.{ℕ, zero, suc, _+_, _-_, _*_, _/_, _%_, _^_, _<_, _≤_, max}
+use Prim.Native.Nat.{ℕ, zero, suc, _+_, _-_, _/_, _%_, _^_, _<_, _≤_, max}
 use native.Mathlib.Nat.{pow-suc, div-eq-of-lt, mod-eq-of-lt, mod-lt, zero-lt-suc, lt-of-lt-of-le}
-use native.Mathlib.Numerals.{one-add, add-one}
+use native.Mathlib.Numerals.{one-add}
 use native.Mathlib.Omega.{arith}
 use lib.Dec.{eqb, ltb}
 use lib.Pow.{pow-mono, pow-pos}
 use lib.Bits.{bitOr, bitXor, or-step, xor-step, differ}
-use lib.Count.{ones, ones-cat, ones-step, ones-le, trailingZeros, under}
+use lib.Count.{ones, ones-cat, trailingZeros, under}
 use Rattle.std.proofs.shelf.Tests.{true≢false}
 use Rattle.std.proofs.shelf.Bits.{pow-below, shr-shr, or-shr, xor-shr, mod-pow-add}
 use Rattle.std.proofs.shelf.Ways.{tells, leb-tells}

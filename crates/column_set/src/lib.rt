@@ -2,7 +2,7 @@
 pub mod columns;
 
 ghost use mathlib.Core.Path.{_≡_};
-ghost use Prim.Native.Nat.{ℕ, _-_, _<_, _≤_, _^_};
+ghost use Prim.Native.Nat.{_-_, _<_, _≤_, _^_};
 ghost use Rattle.column_set.specs.Membership.{has, count-before, Empty, All-before, Inserted, Removed, United, Taken, Fewer, Projected-place};
 
 // Which of a table's columns, by their numbers: a bit for each.

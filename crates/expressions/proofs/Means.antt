@@ -1,20 +1,20 @@
 -- What postfix code comes to is what its expression does.
 use mathlib.Core.Path.{_≡_, refl, sym, _∙_, ap, ap₂}
-use mathlib.Core.Bool.{Bool, true, false, cond}
+use mathlib.Core.Bool.{true, false, cond}
 use mathlib.Core.List.{List, [], _∷_, _++_, append-assoc, append-nil}
 use mathlib.Core.Option.{Option, some, none}
-use Prim.Native.Nat.{ℕ, zero, suc, _+_, _≤_, _<_}
+use Prim.Native.Nat.{ℕ, suc, _+_, _≤_}
 use native.Mathlib.Omega.{arith}
-use mathlib.Core.Logic.{_⊎_, inl, inr, ⊎-elim}
+use mathlib.Core.Logic.{_⊎_, ⊎-elim}
 use lib.ListN.{length}
 use lib.Dec.{ltb}
 use Rattle.std.proofs.shelf.Ways.{tells}
 use Rattle.column_set.specs.Membership.{has}
-use Rattle.meaning.specs.Base.{each, and-then, nth, Bytes, same-bytes}
-use Rattle.meaning.specs.Values.{Value, null, num, word, Ty, t-num, t-word, Expr, e-num, e-word, e-null, e-col, e-op, e-not, e-none, e-if, Col, Row, get, col-type, apply-op, op-type, expect-type, of-truth, not3, truth, is-null, if3, eval, type-of}
+use Rattle.meaning.specs.Base.{each, and-then, Bytes, same-bytes}
+use Rattle.meaning.specs.Values.{null, Ty, t-num, t-word, Expr, e-num, e-word, e-null, e-col, e-op, e-not, e-none, e-if, Col, Row, get, col-type, apply-op, op-type, expect-type, of-truth, not3, truth, is-null, eval, type-of}
 use Rattle.code.proofs.ColIndex.{index-found}
 use Rattle.code.specs.Postfix.{Instr, i-num, i-word, i-null, i-col, i-op, i-not, i-none, i-if, postfix, map-col, col-index, code-for}
-use Rattle.expressions.specs.Algebra.{Algebra, top, rest, run-one, run, result, value-at, row-algebra, type-algebra}
+use Rattle.expressions.specs.Algebra.{Algebra, top, run-one, run, result, value-at, row-algebra, type-algebra}
 use Rattle.expressions.specs.Words.{is-word, col-type-at, Word-columns}
 
 abbrev pub fold : {A : Type 0} → Algebra Bytes A → Expr → A
@@ -67,16 +67,16 @@ get-nil : (cs : List Col) (x : Bytes) → get cs [] x ≡ null
 get-nil [] x = refl
 get-nil (c ∷ cs) x = refl
 
-pub at-place : (cs : List Col) (r : Row) (x : Bytes) → length r ≤ length cs → value-at r (col-index cs x) ≡ get cs r x
-at-place cs [] x h = sym (get-nil cs x)
-at-place [] (v ∷ r) x h = absurd (omega arith)
-at-place (c ∷ cs) (v ∷ r) x h = elim (same-bytes (c .name) x) as (λ b. value-at (v ∷ r) (cond b 0 (suc (col-index cs x))) ≡ cond b v (get cs r x)) [ true ↦ refl | false ↦ at-place cs r x (omega arith) ]
+pub at-index : (cs : List Col) (r : Row) (x : Bytes) → length r ≤ length cs → value-at r (col-index cs x) ≡ get cs r x
+at-index cs [] x h = sym (get-nil cs x)
+at-index [] (v ∷ r) x h = absurd (omega arith)
+at-index (c ∷ cs) (v ∷ r) x h = elim (same-bytes (c .name) x) as (λ b. value-at (v ∷ r) (cond b 0 (suc (col-index cs x))) ≡ cond b v (get cs r x)) [ true ↦ refl | false ↦ at-index cs r x (omega arith) ]
 
 fold-eval : (cs : List Col) (r : Row) (e : Expr) → length r ≤ length cs → fold (via (col-index cs) (row-algebra r)) e ≡ eval cs r e
 fold-eval cs r (e-num n) h = refl
 fold-eval cs r (e-word n) h = refl
 fold-eval cs r (e-null t) h = refl
-fold-eval cs r (e-col x) h = at-place cs r x h
+fold-eval cs r (e-col x) h = at-index cs r x h
 fold-eval cs r (e-op o a b) h = ap₂ (apply-op o) (fold-eval cs r a h) (fold-eval cs r b h)
 fold-eval cs r (e-not a) h = ap (λ v. of-truth (not3 (truth v))) (fold-eval cs r a h)
 fold-eval cs r (e-none a) h = ap is-null (fold-eval cs r a h)
@@ -90,8 +90,8 @@ word-or : (t : Ty) → cond (is-word t) t-word t-num ≡ t
 word-or t-num = refl
 word-or t-word = refl
 
-pub type-place : (bits width : ℕ) (cs : List Col) (x : Bytes) → Word-columns bits width cs → col-type-at bits width (col-index cs x) ≡ col-type cs x
-type-place bits width cs x t =
+pub type-at-index : (bits width : ℕ) (cs : List Col) (x : Bytes) → Word-columns bits width cs → col-type-at bits width (col-index cs x) ≡ col-type cs x
+type-at-index bits width cs x t =
     ⊎-elim
     (λ p. let l = p .3 in let w = t .wide in let b : ltb (col-index cs x) width ≡ true = grind (arith, tells) in
     ap (λ b. cond b (some (cond (has bits (col-index cs x)) t-word t-num)) none) b ∙ (ap (λ b. some (cond b t-word t-num)) (t .words (col-index cs x) (p .0) (p .1)) ∙ (ap some (word-or (p .0 .ty)) ∙ sym (p .2))))
@@ -111,4 +111,4 @@ module _ (f : ℕ → Option Ty) (cs : List Col) (h : (x : Bytes) → f (col-ind
   fold-type (e-if a b c) = ap₂ (λ s t. expect-type s t-num t) (fold-type a) (ap₂ (λ s u. and-then s (λ t. expect-type u t (some t))) (fold-type b) (fold-type c))
 
 pub result-type : (bits width : ℕ) (cs : List Col) (e : Expr) → Word-columns bits width cs → result (type-algebra (col-type-at bits width)) (code-for cs e) ≡ type-of cs e
-result-type bits width cs e t = result-fold (type-algebra (col-type-at bits width)) cs e ∙ fold-type (col-type-at bits width) cs (λ x. type-place bits width cs x t) e
+result-type bits width cs e t = result-fold (type-algebra (col-type-at bits width)) cs e ∙ fold-type (col-type-at bits width) cs (λ x. type-at-index bits width cs x t) e

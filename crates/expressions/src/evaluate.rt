@@ -2,8 +2,8 @@ use crate::stack::Stack;
 use code::instruction::Instruction;
 use values::types::Value;
 ghost use mathlib.Core.Path.{_≡_};
-ghost use mathlib.Core.List.{List, [], _∷_};
-ghost use Prim.Native.Nat.{ℕ, _+_, _*_, _≤_, _<_};
+ghost use mathlib.Core.List.{[]};
+ghost use Prim.Native.Nat.{_+_, _*_, _≤_, _<_};
 ghost use lib.ListN.{length};
 ghost use Rattle.values.specs.Types.{value-of};
 ghost use Rattle.code.specs.Words.{instr-of, code-in};
@@ -62,7 +62,7 @@ fn execute_all(code: &[u64], row: &[u64], stack: &mut Stack)
     ensures values { λ _. ⌜ values-on (now (stack .exit)) ≡ run (row-algebra (row-of (now (row .entry)))) (code-in (now (code .entry))) [] ⌝ }
 {
     for i in 0..code.len() / 2 {
-        let instruction = Instruction::unpack(code[2 * i], code[2 * i + 1]);
+        let instruction = Instruction::fetch(code, i);
         execute(instruction, row, stack);
     }
 }

@@ -5,7 +5,7 @@ ghost use lib.ListN.{length};
 // A stack in lent words, of values as cells or of types.
 #[derive(Drop)]
 pub struct Stack<'a> {
-    pub words: &'a mut [u64],
-    pub depth: usize,
+    pub(crate) words: &'a mut [u64],
+    pub(crate) depth: usize,
     ghost within: { depth ≤ length (now words) },
 }

@@ -5,8 +5,8 @@ use values::types::Kind;
 use values::types::Operator;
 ghost use mathlib.Core.Path.{_≡_};
 ghost use mathlib.Core.Option.{some};
-ghost use mathlib.Core.List.{List, [], _∷_};
-ghost use Prim.Native.Nat.{ℕ, _+_, _*_, _≤_, _<_};
+ghost use mathlib.Core.List.{[]};
+ghost use Prim.Native.Nat.{_+_, _*_, _≤_, _<_};
 ghost use lib.ListN.{length};
 ghost use Rattle.meaning.specs.Base.{and-then};
 ghost use Rattle.meaning.specs.Values.{t-num, op-type, expect-type};
@@ -119,7 +119,7 @@ fn type_all(code: &[u64], word_columns: ColumnSet, stack: &mut Stack)
     ensures types { λ _. ⌜ types-on (now (stack .exit)) ≡ run (type-algebra (col-type-at («word_columns» .bits) («word_columns» .width))) (code-in (now (code .entry))) [] ⌝ }
 {
     for i in 0..code.len() / 2 {
-        let instruction = Instruction::unpack(code[2 * i], code[2 * i + 1]);
+        let instruction = Instruction::fetch(code, i);
         type_one(instruction, word_columns, stack);
     }
 }

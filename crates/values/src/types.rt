@@ -15,6 +15,7 @@ pub struct Word {
     ghost below: { number < word-limit },
 }
 
+// Null, a number or a word.
 #[derive(Clone, Copy)]
 pub enum Value {
     Null,
@@ -29,6 +30,7 @@ pub enum Kind {
     Word,
 }
 
+// Three-valued logic.
 #[derive(Clone, Copy)]
 pub enum Truth {
     True,

@@ -18,7 +18,7 @@ ghost use lib.ListN.{length};
 const NULL: u64 = NULL_CELL;
 
 // late < 20 and day < 2 or none(late), over columns late and day.
-const LATE: [u64; 20] = [
+const CONDITION: [u64; 20] = [
     4,
     0,
     0,
@@ -68,7 +68,7 @@ fn values_on_rows() -> Result<(), Fail> {
     ];
     for row in &table {
         let (late, day, condition, choice) = *row;
-        check_eq(value_on(&LATE, late, day), condition)?;
+        check_eq(value_on(&CONDITION, late, day), condition)?;
         check_eq(value_on(&CHOICE, late, day), choice)?;
     }
     Ok(())
@@ -90,10 +90,13 @@ fn type_on(code: &[u64], word_columns: ColumnSet) -> u64
 #[test]
 fn types_and_columns() -> Result<(), Fail> {
     let numbers = ColumnSet::empty(2);
-    check(type_on(&LATE, numbers) == 1 && type_on(&CHOICE, numbers) == 2)?;
-    check(type_on(&LATE, ColumnSet::all(2)) == 0 && type_on(&LATE, ColumnSet::empty(1)) == 0)?;
+    check(type_on(&CONDITION, numbers) == 1 && type_on(&CHOICE, numbers) == 2)?;
+    check(
+        type_on(&CONDITION, ColumnSet::all(2)) == 0
+            && type_on(&CONDITION, ColumnSet::empty(1)) == 0,
+    )?;
     let named = columns_named(&CHOICE, 2);
-    check(columns_named(&LATE, 3).len() == 2 && named.contains(0) && !named.contains(1))
+    check(columns_named(&CONDITION, 3).len() == 2 && named.contains(0) && !named.contains(1))
 }
 
 #[test]

@@ -1,23 +1,19 @@
 use borrow.Author.Count.{below-more}
-use mathlib.Core.Path.{_≡_, sym, _∙_, ap, ap₂}
+use mathlib.Core.Path.{_≡_, _∙_, ap}
 use native.Mathlib.Omega.{arith}
 use Rattle.meaning.specs.Base.{each}
 use Rattle.code.specs.Postfix.{map-col}
-use Rattle.code.specs.Words.{unpacked}
 use Rattle.code_columns.specs.Columns.{new-index}
-use Rattle.code_columns.proofs.ProjectedCode.{at-k, kept-low, new-one, kept-high, code-each, projected-code}
+use Rattle.code_columns.proofs.ProjectedCode.{code-each, projected-code}
 use Rattle.code_columns.proofs.project.project.Needs as need
 
 pub loop-i-again : need.loop-i-again
 loop-i-again c =
-    let same = c .loop-i .inv .1 in
-    let t = c .pack-operation .result .0 in
-    let a = c .pack-operation .result .1 in
     let f = map-col (new-index (c .args .used .bits) (c .args .used .width)) in (
       below-more _ _
-          (λ k h. kept-low (c .loop-i .code) (c .loop-i .i) k t a h ∙ c .loop-i .inv .0 k h)
-          (new-one (c .loop-i .code) (c .loop-i .i) t a (omega arith) ∙ (c .pack-operation .ensures ∙ (c .project-one .ensures ∙ (ap f (c .unpack-instruction .ensures) ∙ ap f (ap₂ unpacked (same _ (omega arith)) (same _ (omega arith))))))),
-      λ k h. kept-high (c .loop-i .code) (c .loop-i .i) k t a h ∙ same k (omega arith),
+          (λ k h. c .store .ensures .others k (omega arith) ∙ c .loop-i .inv .0 k h)
+          (c .store .ensures .stored ∙ (c .project-one-instruction .ensures ∙ ap f (c .fetch .ensures ∙ c .loop-i .inv .1 _ (omega arith)))),
+      λ k h. c .store .ensures .others k (omega arith) ∙ c .loop-i .inv .1 k (omega arith),
     )
 
 pub returns : need.returns

@@ -1,7 +1,7 @@
-use mathlib.Core.Path.{_≡_, refl, sym, _∙_, ap, subst}
-use Prim.Native.Nat.{ℕ, _+_, _<_, _≤_}
+use mathlib.Core.Path.{_≡_, _∙_, ap, subst}
+use Prim.Native.Nat.{_+_, _<_}
 use native.Mathlib.Omega.{arith}
-use lib.ListN.{length, take}
+use lib.ListN.{length}
 use Rattle.column_set.specs.Membership.{count-before, columns-before}
 use Rattle.column_set.proofs.Has.{first-within}
 use Rattle.column_set.proofs.Places.{listed, all-listed, none-counted, one-listed}

@@ -1,6 +1,4 @@
-use mathlib.Core.Path.{_≡_, refl, sym, _∙_, ap}
-use mathlib.Core.Bool.{true, false}
-use Prim.Native.Nat.{ℕ, _<_, _^_}
+use mathlib.Core.Path.{refl, _∙_, ap}
 use native.Mathlib.Nat.{lt-of-lt-of-le}
 use lib.Count.{trailingZeros}
 use lib.Pow.{pow-mono}

@@ -14,7 +14,7 @@ unfolding values-on
 loop-i-holds c = (omega arith, refl, started (row-algebra (row-of (c .args .row .now))) (c .args .code .now) _ (ap (each from-cell) (c .pre .empty .1)))
 
 pub loop-i-again : need.loop-i-again
-loop-i-again c = (omega arith, omega arith, turned (row-algebra (row-of (c .args .row .now))) (c .args .code .now) (c .loop-i .i) (instr-of (c .unpack-instruction .result)) _ _ _ (omega arith) (c .unpack-instruction .ensures) (c .execute .ensures .values) (c .loop-i .inv .2))
+loop-i-again c = (omega arith, omega arith, turned (row-algebra (row-of (c .args .row .now))) (c .args .code .now) (c .loop-i .i) (instr-of (c .fetch-instruction .result)) _ _ _ (omega arith) (c .fetch-instruction .ensures) (c .execute .ensures .values) (c .loop-i .inv .2))
 
 pub returns : need.returns
 returns c = record { length = c .loop-i .inv .1; values = ended (row-algebra (row-of (c .args .row .now))) (c .args .code .now) (c .loop-i .i) _ _ (omega arith) (c .loop-i .inv .2) }

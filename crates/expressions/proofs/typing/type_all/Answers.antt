@@ -13,7 +13,7 @@ unfolding types-on
 loop-i-holds c = (omega arith, refl, started (type-algebra (col-type-at (c .args .word-columns .bits) (c .args .word-columns .width))) (c .args .code .now) _ (ap (each type-in) (c .pre .empty .1)))
 
 pub loop-i-again : need.loop-i-again
-loop-i-again c = (omega arith, omega arith, turned (type-algebra (col-type-at (c .args .word-columns .bits) (c .args .word-columns .width))) (c .args .code .now) (c .loop-i .i) (instr-of (c .unpack-instruction .result)) _ _ _ (omega arith) (c .unpack-instruction .ensures) (c .type-one .ensures .types) (c .loop-i .inv .2))
+loop-i-again c = (omega arith, omega arith, turned (type-algebra (col-type-at (c .args .word-columns .bits) (c .args .word-columns .width))) (c .args .code .now) (c .loop-i .i) (instr-of (c .fetch-instruction .result)) _ _ _ (omega arith) (c .fetch-instruction .ensures) (c .type-one .ensures .types) (c .loop-i .inv .2))
 
 pub returns : need.returns
 returns c = record { length = c .loop-i .inv .1; types = ended (type-algebra (col-type-at (c .args .word-columns .bits) (c .args .word-columns .width))) (c .args .code .now) (c .loop-i .i) _ _ (omega arith) (c .loop-i .inv .2) }

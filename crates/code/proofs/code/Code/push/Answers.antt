@@ -1,5 +1,4 @@
 use mathlib.Core.Path.{refl}
-use native.Mathlib.Omega.{arith}
 use lib.ListN.{length-set}
 use Rattle.code.specs.Words.{instr-of}
 use Rattle.code.specs.Views.{code-on}

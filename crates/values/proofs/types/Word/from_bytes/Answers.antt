@@ -1,5 +1,5 @@
-use mathlib.Core.Path.{_≡_, ap}
-use Prim.Native.Nat.{_+_, _*_, _<_}
+use mathlib.Core.Path.{ap}
+use Prim.Native.Nat.{_+_, _*_}
 use native.Mathlib.Omega.{arith}
 use Rattle.values.proofs.Digits.{one-more, below-more, below-limit}
 use Rattle.values.proofs.types.Word.from_bytes.Needs as need
