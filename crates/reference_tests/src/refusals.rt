@@ -38,6 +38,9 @@ from t; keep none x => line 2: '(', 'num' or 'word' expected, 'x' found
 from t; make x e => line 2: '=' expected, 'e' found
 from t; left t on x = y => line 2: 'join' expected, 't' found
 from t; group x n = count => line 2: a name expected, '=' found
+from t; group x => line 2: ':' expected, the line ends
+from t; group x : n = total x => line 2: 'sum', 'count', 'min', 'max' or 'first' expected, 'total' found
+from t; join u of x = y => line 2: 'on' expected, 'of' found
 from t; group x : n = count m = count => line 2: ',' or the end of the line expected, 'm' found
 ";
 
@@ -106,7 +109,7 @@ fn not_questions(rt: LibcRuntime) -> Result<(), Fail> {
     let pages = PageFile::new(heap);
     check_eq(
         expect_list(heap, &pages, "", "not a question", NOT_QUESTIONS)?,
-        34,
+        37,
     )
 }
 
@@ -117,4 +120,22 @@ fn unsound_questions(rt: LibcRuntime) -> Result<(), Fail> {
     pages.column(&[1])?;
     pages.column(&[word(b"a")])?;
     check_eq(expect_list(heap, &pages, TABLES, "not sound", UNSOUND)?, 26)
+}
+
+// A table of 65 columns, all on one page.
+#[test]
+fn too_many_columns(rt: LibcRuntime) -> Result<(), Fail> {
+    let heap = rt.alloc();
+    let mut pages = PageFile::new(heap);
+    pages.column(&[1])?;
+    let mut text = String::from_str(heap, "table t 1")?;
+    for i in 0..65u32 {
+        text.push_str(format!(heap, " c{i} num 0")?.as_str())?;
+    }
+    text.push_str("\nfrom t")?;
+    pages.expect(
+        heap,
+        text.as_str(),
+        "ask: not sound: line 1: 65 columns, more than 64",
+    )
 }
