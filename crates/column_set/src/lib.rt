@@ -1,4 +1,5 @@
 // Sets of column numbers.
+#![tactic(auto)]
 pub mod columns;
 
 ghost use Rattle.std.specs.Prelude.{◌≡◌, ◌-◌, ◌^◌, ◌<◌, ◌≤◌};

@@ -1,3 +1,4 @@
+#![tactic(auto)]
 mod chance;
 mod draft;
 mod growth;

@@ -1,4 +1,5 @@
 // Expressions of a line, to postfix code: a loop over marks, with no recursion.
+#![tactic(auto)]
 mod leaves;
 mod machine;
 mod marks;

@@ -1,4 +1,6 @@
 // Page files: words of 64 bits, the lowest byte first, 512 words to a page.
+#![tactic(auto)]
+
 ghost use Rattle.std.specs.Prelude.{◌≡◌, ◌+◌, ◌≤◌, length};
 ghost use Rattle.pagefile.specs.declared.PageFileError.TheVariants.{OutOfMemory};
 ghost use Rattle.pagefile.specs.Decoded.{Decoded};

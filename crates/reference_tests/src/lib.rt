@@ -1,4 +1,5 @@
 // What the reference answers and refuses, by examples.
+#![tactic(auto)]
 #[cfg(test)]
 mod answers;
 #[cfg(test)]

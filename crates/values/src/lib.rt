@@ -1,4 +1,6 @@
 // Values, truths and operators, each proved to be what the definitions say.
+#![tactic(auto)]
+
 pub mod cells;
 pub mod truth;
 pub mod types;

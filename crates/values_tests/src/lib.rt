@@ -1,4 +1,5 @@
 // Values, column sets and expressions on examples.
+#![tactic(auto)]
 #[cfg(test)]
 mod cells;
 #[cfg(test)]

@@ -10,6 +10,6 @@ overflow-add-number c = let b = c.byte-or-zero.ensures.1 in omega (arith, b, bel
 
 pub loop-i-preserved : goal.loop-i-preserved
 loop-i-preserved c = (
-  below_more c.loop-i.i c.loop-i.number c.byte-or-zero.result c.loop-i.invariant.0 c.byte-or-zero.ensures.1,
-  one_more c.loop-i.i c.args.bytes.now c.loop-i.number _ _ (omega arith) (ap (λ b. 256 * c.loop-i.number + b) c.byte-or-zero.ensures.0) c.loop-i.invariant.1,
+  below_more c.loop-i.i c.loop-i.number c.byte_or_zero.result c.loop-i.invariant.0 c.byte_or_zero.ensures.1,
+  one_more c.loop-i.i c.args.bytes.now c.loop-i.number _ _ (omega arith) (ap (λ b. 256 * c.loop-i.number + b) c.byte_or_zero.ensures.0) c.loop-i.invariant.1,
 )
