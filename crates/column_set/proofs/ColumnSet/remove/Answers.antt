@@ -6,10 +6,10 @@ use Rattle.column_set.proofs.ColumnSet.remove.Goals as goal
 pub bit-requires : goal.bit-requires
 bit-requires c = lt_of_lt_of_le (first_within c.args.self.now.bits c.args.self.now.width c.args.i c.args.self.now.within (sym c.if-contains.ensures)) c.args.self.now.few
 
-pub invariant-of-self : goal.invariant-of-self
-invariant-of-self c =
+pub invariant_of-self : goal.invariant_of-self
+invariant_of-self c =
     let i = first_within c.args.self.now.bits c.args.self.now.width c.args.i c.args.self.now.within (sym c.if-contains.ensures) in
-    (c.args.self.now.few, (xor_lt c.args.self.now.width c.args.self.now.bits c.bit.result c.args.self.now.within (bit_within c.args.i c.args.self.now.width c.bit.result c.bit.ensures i), tt))
+    record { few = c.args.self.now.few; within = xor_lt c.args.self.now.width c.args.self.now.bits c.bit.result c.args.self.now.within (bit_within c.args.i c.args.self.now.width c.bit.result c.bit.ensures i) }
 
 pub returns-then-contains : goal.returns-then-contains
 returns-then-contains c = record { width = refl; columns = removed c.args.self.now.bits c.args.i c.bit.result c.bit.ensures (sym c.if-contains.ensures) }

@@ -3,8 +3,8 @@ use lib.Bits.{or_lt}
 use Rattle.column_set.proofs.Has.{has_or}
 use Rattle.column_set.proofs.ColumnSet.union.Goals as goal
 
-pub invariant-of-result : goal.invariant-of-result
-invariant-of-result c = (c.args.self.few, (or_lt c.args.self.width c.args.self.bits c.args.other.bits c.args.self.within (lt_of_lt_of_le c.args.other.within (pow_mono c.requires)), tt))
+pub invariant_of-result : goal.invariant_of-result
+invariant_of-result c = record { few = c.args.self.few; within = or_lt c.args.self.width c.args.self.bits c.args.other.bits c.args.self.within (lt_of_lt_of_le c.args.other.within (pow_mono c.requires)) }
 
 pub returns : goal.returns
 returns c = record { width = refl; columns = has_or c.args.self.bits c.args.other.bits }

@@ -7,11 +7,11 @@ use Rattle.reference_reading.proofs.messages.message.Goals as goal
 
 pub loop-part-preserved : goal.loop-part-preserved
 loop-part-preserved c =
-    joined_step (said c.args.text.now) (string_bytes c.in-ok-message.message) c.args.phrase
-    c.loop-part.part-index Empty (omega arith) c.loop-part.invariant c.in-ok-push-part.ensures
+    joined_step (said c.args.text.now) (string_bytes c.in_ok-message.message) c.args.phrase
+    c.loop-part.part-index Empty (omega arith) c.loop-part.invariant c.in_ok-push_part.ensures
 
 pub returns : goal.returns
 returns c =
-    joined_all (said c.args.text.now) (string_bytes c.in-ok-message.message) c.args.phrase
+    joined_all (said c.args.text.now) (string_bytes c.in_ok-message.message) c.args.phrase
     c.loop-part.part-index (omega arith) c.loop-part.invariant
-    ∙ ap (λ l. l ++ flat_map (said c.args.text.now) c.args.phrase) c.in-ok-message.ensures.ok
+    ∙ ap (λ l. l ++ flat_map (said c.args.text.now) c.args.phrase) c.in_ok-message.ensures.ok

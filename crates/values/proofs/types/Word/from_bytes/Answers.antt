@@ -2,11 +2,11 @@ use Rattle.std.proofs.Common.{◌+◌, ◌*◌, ap, arith}
 use Rattle.values.proofs.Digits.{one_more, below_more, below_limit}
 use Rattle.values.proofs.types.Word.from_bytes.Goals as goal
 
-pub overflow-mul-number : goal.overflow-mul-number
-overflow-mul-number c = omega (arith, below_limit c.loop-i.i c.loop-i.number (omega arith) c.loop-i.invariant.0)
+pub overflow_mul-number : goal.overflow_mul-number
+overflow_mul-number c = omega (arith, below_limit c.loop-i.i c.loop-i.number (omega arith) c.loop-i.invariant.0)
 
-pub overflow-add-number : goal.overflow-add-number
-overflow-add-number c = let b = c.byte-or-zero.ensures.1 in omega (arith, b, below_limit c.loop-i.i c.loop-i.number (omega arith) c.loop-i.invariant.0)
+pub overflow_add-number : goal.overflow_add-number
+overflow_add-number c = let b = c.byte_or_zero.ensures.1 in omega (arith, b, below_limit c.loop-i.i c.loop-i.number (omega arith) c.loop-i.invariant.0)
 
 pub loop-i-preserved : goal.loop-i-preserved
 loop-i-preserved c = (
