@@ -45,7 +45,7 @@ pub fn order(heap: Global, rows: &[Row], columns: &[SortColumn]) -> Result<Vec<R
         let key = sort_key(heap, values.as_slice(), columns)?;
         keys.push(Keyed { key, row })?;
     }
-    keys.sort();
+    keys.sort()?;
     fetch(heap, rows, keys.as_slice())
 }
 
@@ -87,7 +87,7 @@ fn begins_run(keys: &[Keyed<Value>], at: usize) -> bool {
 // For each row the first row that has its key; null is a key like others.
 fn first_rows(heap: Global, mut keys: Vec<Keyed<Value>>) -> Result<Vec<usize>, AllocError> {
     let mut firsts = vec![in heap; 0; keys.len()]?;
-    keys.sort();
+    keys.sort()?;
     let mut first = 0;
     for (at, keyed) in keys.iter().enumerate() {
         if begins_run(keys.as_slice(), at) {

@@ -19,7 +19,7 @@ fn names(rt: &HostRuntime) -> anyhow::Result<Vec<String>> {
             names.push(String::from_str(rt.alloc(), name)?)?;
         }
     }
-    names.sort();
+    names.sort()?;
     Ok(names)
 }
 

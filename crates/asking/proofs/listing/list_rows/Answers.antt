@@ -8,8 +8,8 @@ pub loop-row-preserved : goal.loop-row-preserved
 loop-row-preserved c =
     joined_step line meant_row [] c.args.rows.now c.loop-row.row-index c.row-item.result
     c.loop-row-test.true c.loop-row.invariant
-    (c.in-ok-push-row.ensures
-    ∙ (ap (λ l. vec_items c.loop-row.out ++ line (map meant l)) c.as-slice.ensures.value
+    (c.in_ok-push_row.ensures
+    ∙ (ap (λ l. vec_items c.loop-row.out ++ line (map meant l)) c.as_slice.ensures.value
     ∙ ap (λ row. vec_items c.loop-row.out ++ line (meant_row row)) c.row-item.is))
 
 pub returns : goal.returns

@@ -10,8 +10,8 @@ loop-value-preserved c =
     let value = get_or c.args.values.now c.loop-value.value-index Null in
     joined_step behind_comma meant (vec_items c.args.out.now) c.args.values.now c.loop-value.value-index Null
     c.loop-value-test.true c.loop-value.invariant
-    (c.in-ok-push-value.ensures
-    ∙ (ap (λ l. l ++ shown (meant value)) c.in-ok-push.ensures.items
+    (c.in_ok-push_value.ensures
+    ∙ (ap (λ l. l ++ shown (meant value)) c.in_ok-push.ensures.items
     ∙ append_assoc (vec_items c.loop-value.out) (codes ",") (shown (meant value))))
 
 pub returns : goal.returns

@@ -5,8 +5,8 @@ use Rattle.asking.proofs.listing.push_word.Goals as goal
 
 pub returns : goal.returns
 returns c =
-    let bytes = c.trimmed.ensures ∙ ap (λ l. trimmed (take 7 (drop 1 l))) c.to-be-bytes-bytes.ensures in
+    let bytes = c.trimmed.ensures ∙ ap (λ l. trimmed (take 7 (drop 1 l))) c.to_be_bytes-bytes.ensures in
     three_parts (vec_items c.args.out.now) (codes "'") (trimmed (word_bytes c.args.number)) (codes "'")
-    c.in-ok-push.ensures.items
-    (c.in-ok-extend-from-slice.ensures.items ∙ ap (λ l. vec_items c.push.new.self ++ l) bytes)
-    c.in-ok-push-2.ensures.items
+    c.in_ok-push.ensures.items
+    (c.in_ok-extend_from_slice.ensures.items ∙ ap (λ l. vec_items c.push.new.self ++ l) bytes)
+    c.in_ok-push-2.ensures.items

@@ -10,7 +10,7 @@ loop-i-preserved c =
     let f = map_col (new_index c.args.used.bits c.args.used.width) in (
       below_more _ _
           (λ k h. c.store.ensures.others k (omega arith) ∙ c.loop-i.invariant.0 k h)
-          (c.store.ensures.stored ∙ (c.project-one-instruction.ensures ∙ ap f (c.fetch.ensures ∙ c.loop-i.invariant.1 _ (omega arith)))),
+          (c.store.ensures.stored ∙ (c.project_one-instruction.ensures ∙ ap f (c.fetch.ensures ∙ c.loop-i.invariant.1 _ (omega arith)))),
       λ k h. c.store.ensures.others k (omega arith) ∙ c.loop-i.invariant.1 k (omega arith),
     )
 

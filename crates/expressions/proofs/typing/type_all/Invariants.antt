@@ -6,4 +6,4 @@ use Rattle.expressions.specs.Views.{types_on}
 use Rattle.expressions.proofs.typing.type_all.Given as goal
 
 abbrev pub invariant-loop-i : goal.invariant-loop-i
-invariant-loop-i l = (l.stack.depth ≤ l.i) × (length l.stack.words.now ≡ length l.initial.stack.words.now) × (run (type_algebra (col_type_at l.word-columns.bits l.word-columns.width)) (code_from l.code l.i) (types_on l.stack) ≡ run (type_algebra (col_type_at l.word-columns.bits l.word-columns.width)) (code_in l.code) [])
+invariant-loop-i l = (l.stack.depth ≤ l.i) × (length l.stack.words.now ≡ length l.initial.stack.words.now) × (run (type_algebra (col_type_at l.word_columns.bits l.word_columns.width)) (code_from l.code l.i) (types_on l.stack) ≡ run (type_algebra (col_type_at l.word_columns.bits l.word_columns.width)) (code_in l.code) [])

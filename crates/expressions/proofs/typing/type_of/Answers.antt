@@ -6,4 +6,4 @@ use Rattle.expressions.proofs.Means.{result_type}
 use Rattle.expressions.proofs.typing.type_of.Goals as goal
 
 pub returns : goal.returns
-returns c = record { length = omega arith; kind = λ cs e h t. c.pop-type.ensures.kind ∙ (ap (top none) c.type-all.ensures.types ∙ (ap (result (type_algebra (col_type_at c.args.word-columns.bits c.args.word-columns.width))) h ∙ result_type c.args.word-columns.bits c.args.word-columns.width cs e t)) }
+returns c = record { length = omega arith; kind = λ cs e h t. c.pop_type.ensures.kind ∙ (ap (top none) c.type_all.ensures.types ∙ (ap (result (type_algebra (col_type_at c.args.word_columns.bits c.args.word_columns.width))) h ∙ result_type c.args.word_columns.bits c.args.word_columns.width cs e t)) }

@@ -9,4 +9,4 @@ pub returns : goal.returns
 unfolding types_on
 returns c =
     let ws = words_on c.args.self.now in
-    record { length = c.pop-or.ensures.length; depth = c.pop-or.ensures.depth; kind = c.unpack-kind.ensures ∙ (ap type_in c.pop-or.ensures.word ∙ top_each type_in _ ws); types = ap (each type_in) c.pop-or.ensures.words ∙ rest_each type_in ws }
+    record { length = c.pop_or.ensures.length; depth = c.pop_or.ensures.depth; kind = c.unpack_kind.ensures ∙ (ap type_in c.pop_or.ensures.word ∙ top_each type_in _ ws); types = ap (each type_in) c.pop_or.ensures.words ∙ rest_each type_in ws }

@@ -9,4 +9,4 @@ pub returns : goal.returns
 unfolding values_on
 returns c =
     let ws = words_on c.args.self.now in
-    record { length = c.pop-or.ensures.length; depth = c.pop-or.ensures.depth; value = c.from-cell.ensures ∙ (ap from_cell c.pop-or.ensures.word ∙ top_each from_cell _ ws); values = ap (each from_cell) c.pop-or.ensures.words ∙ rest_each from_cell ws }
+    record { length = c.pop_or.ensures.length; depth = c.pop_or.ensures.depth; value = c.from_cell.ensures ∙ (ap from_cell c.pop_or.ensures.word ∙ top_each from_cell _ ws); values = ap (each from_cell) c.pop_or.ensures.words ∙ rest_each from_cell ws }

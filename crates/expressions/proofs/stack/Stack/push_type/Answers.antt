@@ -6,4 +6,4 @@ use Rattle.expressions.proofs.stack.Stack.push_type.Goals as goal
 
 pub returns : goal.returns
 unfolding types_on
-returns c = record { length = c.push.ensures.length; depth = c.push.ensures.depth; types = ap (each type_in) c.push.ensures.words ∙ ap (λ v. v ∷ each type_in (words_on c.args.self.now)) c.pack-kind.ensures }
+returns c = record { length = c.push.ensures.length; depth = c.push.ensures.depth; types = ap (each type_in) c.push.ensures.words ∙ ap (λ v. v ∷ each type_in (words_on c.args.self.now)) c.pack_kind.ensures }

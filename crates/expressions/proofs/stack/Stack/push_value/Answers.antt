@@ -6,4 +6,4 @@ use Rattle.expressions.proofs.stack.Stack.push_value.Goals as goal
 
 pub returns : goal.returns
 unfolding values_on
-returns c = record { length = c.push.ensures.length; depth = c.push.ensures.depth; values = ap (each from_cell) c.push.ensures.words ∙ ap (λ v. v ∷ each from_cell (words_on c.args.self.now)) c.to-cell.ensures.back }
+returns c = record { length = c.push.ensures.length; depth = c.push.ensures.depth; values = ap (each from_cell) c.push.ensures.words ∙ ap (λ v. v ∷ each from_cell (words_on c.args.self.now)) c.to_cell.ensures.back }
