@@ -17,6 +17,7 @@ fn keyed(heap: Global) -> Result<PageFile, AllocError> {
 fn null_key_joins_nothing(rt: HostRuntime) -> Result<(), Fail> {
     let pages = keyed(rt.alloc())?;
     pages.expect(
+        &rt,
         rt.alloc(),
         "table a 4 k num 0 x num 1\ntable b 3 j num 2 y num 3\nfrom a\njoin b on k = j\n",
         "1,11,1,21\n1,11,1,22\n",
@@ -27,6 +28,7 @@ fn null_key_joins_nothing(rt: HostRuntime) -> Result<(), Fail> {
 fn left_row_stays_once(rt: HostRuntime) -> Result<(), Fail> {
     let pages = keyed(rt.alloc())?;
     pages.expect(
+        &rt,
         rt.alloc(),
         "table a 4 k num 0 x num 1\ntable b 3 j num 2 y num 3\nfrom a\nleft join b on k = j\n",
         ",10,,\n1,11,1,21\n1,11,1,22\n2,12,,\n,13,,\n",
@@ -37,6 +39,7 @@ fn left_row_stays_once(rt: HostRuntime) -> Result<(), Fail> {
 fn nulls_are_one_group(rt: HostRuntime) -> Result<(), Fail> {
     let pages = keyed(rt.alloc())?;
     pages.expect(
+        &rt,
         rt.alloc(),
         "table a 4 k num 0 x num 1\nfrom a\ngroup k : n = count, s = sum x, l = min x, f = first k\n",
         ",2,23,10,\n1,1,11,11,1\n2,1,12,12,2\n",
@@ -59,6 +62,7 @@ fn large_sum_stays_null(rt: HostRuntime) -> Result<(), Fail> {
         1,
     ])?;
     pages.expect(
+        &rt,
         rt.alloc(),
         "table t 8 k num 0 x num 1\nfrom t\ngroup k : s = sum x",
         "1,\n2,9223372036854775807\n",
@@ -71,6 +75,7 @@ fn sums_and_bests_leave_nulls_out(rt: HostRuntime) -> Result<(), Fail> {
     pages.column(&[NULL, 7, NULL, 3])?;
     pages.column(&[NULL, NULL, NULL, NULL])?;
     pages.expect(
+        &rt,
         rt.alloc(),
         "table t 4 x num 0 y num 1\nfrom t\ngroup : s = sum x, l = min x, m = max x, f = first x, z = sum y, w = max y\n",
         "10,3,7,,0,\n",
@@ -83,6 +88,7 @@ fn order_and_take_stay_apart(rt: HostRuntime) -> Result<(), Fail> {
     pages.column(&[3, 1, NULL, 2, 1])?;
     pages.column(&[0, 1, 2, 3, 4])?;
     pages.expect_all(
+        &rt,
         rt.alloc(),
         "table t 5 x num 0 i num 1\nfrom t\n",
         &[
@@ -100,6 +106,7 @@ fn unused_column_is_harmless(rt: HostRuntime) -> Result<(), Fail> {
     let mut pages = PageFile::new(rt.alloc());
     pages.column(&[4, 0, 2])?;
     pages.expect(
+        &rt,
         rt.alloc(),
         "table t 3 x num 0\nfrom t\nmake y = 8 / x\nmake z = y / 0\nkeep x < 4\npick x\n",
         "0\n2\n",
@@ -112,6 +119,7 @@ fn distinct_and_pick_stay_apart(rt: HostRuntime) -> Result<(), Fail> {
     pages.column(&[1, 1, NULL, 1, NULL])?;
     pages.column(&[1, 2, 3, 1, 3])?;
     pages.expect_all(
+        &rt,
         rt.alloc(),
         "table t 5 x num 0 y num 1\nfrom t\n",
         &[
@@ -139,6 +147,7 @@ fn whole_pages_and_one_more(rt: HostRuntime) -> Result<(), Fail> {
         pages.counting(rows)?;
         let head = format!(in heap; "table t {rows} x num 0\nfrom t\n")?;
         pages.expect_all(
+            &rt,
             heap,
             head.as_str(),
             &[("group : n = count, m = max x, s = sum x", expected)],
@@ -151,6 +160,7 @@ fn whole_pages_and_one_more(rt: HostRuntime) -> Result<(), Fail> {
 fn no_rows_print_nothing(rt: HostRuntime) -> Result<(), Fail> {
     let pages = keyed(rt.alloc())?;
     pages.expect_all(
+        &rt,
         rt.alloc(),
         "table a 4 k num 0 x num 1\ntable e 0 k num 4\n",
         &[
@@ -169,6 +179,7 @@ fn cells_of_another_type_are_null(rt: HostRuntime) -> Result<(), Fail> {
     let seven = word(b"abcdefg");
     pages.column(&[7, seven, NULL, 0x8000_0000_0000_0000, 0x8100_0000_0000_0000])?;
     pages.expect(
+        &rt,
         rt.alloc(),
         "table t 5 x num 0 y word 0\nfrom t\n",
         "7,\n,'abcdefg'\n,\n,''\n,\n",

@@ -1,5 +1,6 @@
 // What the reference answers and refuses, by examples.
 #![tactic(auto)]
+
 #[cfg(test)]
 mod answers;
 #[cfg(test)]

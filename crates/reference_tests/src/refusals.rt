@@ -1,6 +1,7 @@
 // Every reason for a refusal: a question on each line, its own lines parted by semicolons, and its message.
 use crate::tables::*;
 use std::alloc::{AllocError, Global};
+use std::process::Abort;
 use std::test::*;
 
 const NOT_QUESTIONS: &str = "
@@ -84,6 +85,7 @@ fn lines(heap: Global, text: &str) -> Result<String, AllocError> {
 }
 
 fn expect_list(
+    rt: &impl Abort,
     heap: Global,
     pages: &PageFile,
     head: &str,
@@ -95,7 +97,7 @@ fn expect_list(
         if let Some((text, reason)) = case.split_once(" => ") {
             let steps = lines(heap, text)?;
             let line = format!(in heap; "ask: {verdict}: {reason}")?;
-            pages.expect_all(heap, head, &[(steps.as_str(), line.as_str())])?;
+            pages.expect_all(rt, heap, head, &[(steps.as_str(), line.as_str())])?;
             count = count.saturating_add(1);
         }
     }
@@ -107,7 +109,7 @@ fn not_questions(rt: HostRuntime) -> Result<(), Fail> {
     let heap = rt.alloc();
     let pages = PageFile::new(heap);
     assert_eq!(rt;
-        expect_list(heap, &pages, "", "not a question", NOT_QUESTIONS)?,
+        expect_list(&rt, heap, &pages, "", "not a question", NOT_QUESTIONS)?,
         37
     );
     Ok(())
@@ -120,7 +122,7 @@ fn unsound_questions(rt: HostRuntime) -> Result<(), Fail> {
     pages.column(&[1])?;
     pages.column(&[word(b"a")])?;
     assert_eq!(rt;
-        expect_list(heap, &pages, TABLES, "not sound", UNSOUND)?,
+        expect_list(&rt, heap, &pages, TABLES, "not sound", UNSOUND)?,
         26
     );
     Ok(())
@@ -138,6 +140,7 @@ fn too_many_columns(rt: HostRuntime) -> Result<(), Fail> {
     }
     text.push_str("\nfrom t")?;
     pages.expect(
+        &rt,
         heap,
         text.as_str(),
         "ask: not sound: line 1: 65 columns, more than 64",

@@ -2,6 +2,7 @@
 use asking::replies::*;
 use asking::reply;
 use std::alloc::{AllocError, Global};
+use std::process::Abort;
 use std::test::*;
 
 pub const NULL: u64 = 0xffff_ffff_ffff_ffff;
@@ -57,30 +58,42 @@ impl PageFile {
     }
 
     // Each question, behind the same first lines, comes to what stands beside it.
-    pub fn expect_all(&self, heap: Global, head: &str, cases: &[(&str, &str)]) -> Result<(), Fail> {
+    pub fn expect_all(
+        &self,
+        rt: &impl Abort,
+        heap: Global,
+        head: &str,
+        cases: &[(&str, &str)],
+    ) -> Result<(), Fail> {
         for (steps, expected) in cases.iter() {
             let mut text = String::from_str(heap, head)?;
             text.push_str(*steps)?;
-            self.expect(heap, text.as_str(), *expected)?;
+            self.expect(rt, heap, text.as_str(), *expected)?;
         }
         Ok(())
     }
 
     // A question comes to these lines, or is refused by this one.
-    pub fn expect(&self, heap: Global, text: &str, expected: &str) -> Result<(), Fail> {
+    pub fn expect(
+        &self,
+        rt: &impl Abort,
+        heap: Global,
+        text: &str,
+        expected: &str,
+    ) -> Result<(), Fail> {
         match reply(heap, text.as_bytes(), "test.pages", self.bytes.as_slice()) {
             Ok(rows) => match std::str::from_utf8(rows.as_slice()) {
                 Ok(lines) => {
-                    assert_eq!(lines, expected);
+                    assert_eq!(rt; lines, expected);
                     Ok(())
                 },
                 Err(_) => {
-                    assert_eq!(rows.as_slice(), expected.as_bytes());
+                    assert_eq!(rt; rows.as_slice(), expected.as_bytes());
                     Ok(())
                 },
             },
             Err(Failure::Said(line)) => {
-                assert_eq!(line.as_str(), expected);
+                assert_eq!(rt; line.as_str(), expected);
                 Ok(())
             },
             Err(Failure::OutOfMemory) => Err(Fail::new("out of memory")),
