@@ -1,5 +1,6 @@
 // ask QUESTION PAGES: prints the rows that a question comes to on a page file.
 #![tactic(auto)]
+
 use asking::arguments::*;
 use asking::replies::*;
 use asking::reply;

@@ -1,5 +1,6 @@
 // What the program `ask` does, but for reading files and printing.
 #![tactic(auto)]
+
 pub mod arguments;
 mod listing;
 pub mod replies;

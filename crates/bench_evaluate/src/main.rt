@@ -1,5 +1,6 @@
 // bench_evaluate ROWS: for how many of so many rows `late < 20 and day < 2` is true.
 #![tactic(auto)]
+
 ghost use Rattle.std.specs.Prelude.{◌≡◌, ◌+◌, ◌*◌, ◌≤◌, length};
 
 use code::code::Code;

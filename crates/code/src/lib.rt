@@ -1,5 +1,6 @@
 // Expressions as postfix code in lent words.
 #![tactic(auto)]
+
 pub mod code;
 pub mod instruction;
 pub mod layout;

@@ -1,4 +1,5 @@
 #![tactic(auto)]
+
 mod chance;
 mod draft;
 mod growth;

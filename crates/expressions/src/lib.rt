@@ -1,5 +1,6 @@
 // The values of expressions on rows, and their types, by their postfix code.
 #![tactic(auto)]
+
 pub mod evaluate;
 mod pushing;
 pub mod stack;

@@ -1,5 +1,6 @@
 // Reads the text of a question: lines as views of it, tables and steps one after another.
 #![tactic(auto)]
+
 mod checks;
 pub mod faults;
 pub mod lines;

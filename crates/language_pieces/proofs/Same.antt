@@ -1,7 +1,7 @@
 -- Bytes that are the same.
 use Rattle.std.proofs.Common.{◌≡◌, ℕ, Bool, true, false, ◌&&◌, eqb, List, [], ◌∷◌, Decides, sym, refl, ap, ◌∙◌, rules}
+use lib.Pointwise.{pointwise}
 use borrow.Author.Tests.{clash}
-use Rattle.std.specs.Cmp.Lexicographic.{Matches}
 use Rattle.std.proofs.lemmas.Slice.Eq.{slice_eq-Decides, IsBytesEq, compares_Decides}
 use Rattle.meaning.specs.Base.{Bytes, same_bytes}
 use Rattle.std.proofs.lemmas.Bool.Decides.{Decides-eqb}
@@ -19,8 +19,11 @@ one_test true false d e = sym (e.1 (d.0 refl))
 one_test false true d e = d.1 (e.0 refl)
 one_test false false d e = refl
 
-pub matches_same : (a b : Bytes) (r : Bool) → Matches (λ (x y : ℕ) (t : Bool). Decides t (x ≡ y)) a b r → r ≡ same_bytes a b
-matches_same a b r h = one_test r (same_bytes a b) (slice_eq-Decides Decides-eqb a b r h) (same_decides a b)
+pub pointwise_same : (a b : Bytes) → pointwise eqb a b ≡ same_bytes a b
+pointwise_same [] [] = refl
+pointwise_same [] (y ∷ ys) = refl
+pointwise_same (x ∷ xs) [] = refl
+pointwise_same (x ∷ xs) (y ∷ ys) = ap (λ t. eqb x y && t) (pointwise_same xs ys)
 
 pub same_turned : (a b : Bytes) → same_bytes a b ≡ same_bytes b a
 same_turned a b = one_test (same_bytes a b) (same_bytes b a) (same_decides a b) ((λ t. sym ((same_decides b a).0 t)), (λ e. (same_decides b a).1 (sym e)))

@@ -1,4 +1,5 @@
 // Messages for people: words, numbers and quotes of a text, put together as one line.
 #![tactic(auto)]
+
 pub mod parts;
 pub mod quotes;

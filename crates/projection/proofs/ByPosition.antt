@@ -3,8 +3,8 @@ use Rattle.std.proofs.Common.{◌≡◌, ℕ, suc, ◌*◌, ◌≤◌, Bool, tru
 use mathlib.Core.Option.{Option, some, none}
 use Rattle.std.proofs.lemmas.Bool.{and_parts, and_from, or_cases, not_from_false, not-true, false≢true}
 use Rattle.meaning.specs.Base.{map_or, and_then, nth, Bytes, same_bytes, among, all_different, each, filter, flat_map, Every}
-use Rattle.meaning.specs.Values.{Value, null, t_num, Expr, Col, Row, get, eval}
-use Rattle.meaning.specs.Steps.{StoredCol, Decl, NamedAgg, s_group, s_make, s_join, Table, col_names, project_row, same_row, aggregate, group_rows, group_keys, matches, or_null_row}
+use Rattle.meaning.specs.Values.{Value, null, t_num, Col, Row, get, eval}
+use Rattle.meaning.specs.Steps.{StoredCol, Decl, NamedAgg, s_group, Table, col_names, project_row, same_row, aggregate, group_rows, group_keys, matches, or_null_row}
 use Rattle.meaning.specs.Plan.{intersect, pages_for, decl_cols}
 use Rattle.meaning.specs.Theorems.{WellFormed}
 use Rattle.projection.specs.Projected.{col_place, project_cols, project_stored, project, projected_rows}

@@ -5,9 +5,9 @@ use Rattle.std.proofs.lemmas.Bool.{and_parts, and_from, or_cases, or_right}
 use Rattle.meaning.specs.Base.{map_or, any, Bytes, same_bytes, among, filter}
 use Rattle.meaning.specs.Values.{Col, names_in}
 use Rattle.meaning.specs.Steps.{Decl, NamedAgg, Step, s_keep, s_make, s_pick, s_join, s_group, s_order, s_take, s_skip, s_unite, s_distinct, Table, col_names, key_names}
-use Rattle.meaning.specs.Plan.{cols_after, add_names, intersect, agg_names, used_aggs, used_before, used_of_named, used}
+use Rattle.meaning.specs.Plan.{cols_after, add_names, intersect, agg_names, used_aggs, used_before, used}
 use Rattle.projection.specs.Projected.{Scan, projected_next, projected_steps, named_amount, projected_total}
-use Rattle.projection.specs.Cells.{used_test, UsedByMembership, JoinUsedByMembership}
+use Rattle.projection.specs.Cells.{UsedByMembership, JoinUsedByMembership}
 use Rattle.meaning.proofs.Names.{or_false, In, bool_ext, same_is, in_filter, filter_in, filter_true}
 
 grown_is : (b : Bool) (x v : Bytes) (ws : List Bytes) → among v ws ≡ b → among x (cond b ws (v ∷ ws)) ≡ (same_bytes x v || among x ws)

@@ -1,5 +1,6 @@
 // A question run on projected tables, each cut down to the columns that are used from there on. Each function here carries a theorem, which is its contract, and does nothing else.
 #![tactic(auto)]
+
 ghost use Rattle.projection.specs.Cells.{AllProjected, GetByPlace, GroupByCells, JoinByCells, JoinUsedByMembership, MakeByCells, PlaceProjected, UsedByMembership};
 ghost use Rattle.projection.specs.Course.{CourseEnds, CourseStarts, CourseTurns, TurnedTwice};
 ghost use Rattle.projection.specs.Projected.{ProjectedAnswers, ProjectedReads, ProjectedTotals};

@@ -1,5 +1,6 @@
 // Answers questions with everything in memory, as simply as can be: a second opinion on what the engine answers.
 #![tactic(auto)]
+
 pub mod answering;
 mod evaluating;
 mod keyed;

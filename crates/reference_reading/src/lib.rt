@@ -1,6 +1,7 @@
 // Reads the text of a question with everything in memory: lines to pieces, pieces to tables and steps, expressions to postfix code.
 // Nothing here recurses, so no text is nested too deep.
 #![tactic(auto)]
+
 mod expressions;
 pub mod faults;
 mod lexing;

@@ -1,5 +1,6 @@
 // Values, column sets and expressions on examples.
 #![tactic(auto)]
+
 #[cfg(test)]
 mod cells;
 #[cfg(test)]

@@ -1,6 +1,7 @@
 // Asks every question in flights/ and holds what comes to the file beside it: NAME.rows has the rows,
 // NAME.refusal the line that refuses.
 #![tactic(auto)]
+
 use asking::replies::*;
 use asking::reply;
 use std::alloc::{AllocError, Global};

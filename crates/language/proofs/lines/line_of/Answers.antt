@@ -11,20 +11,20 @@ pub loop-preserved : goal.loop-preserved
 loop-preserved c =
     let e : (c.loop.counter - 1) + 1 ≡ c.loop.counter + 1 - 1 = omega arith in (
       omega arith,
-      dropped_more (lines_of [] c.args.text.now) (lines_left c.loop.lines) (lines_left c.next-line.new.self) (c.loop.counter - 1) c.in-Some.field-0.now c.loop.invariant.1 c.in-Some.ensures.line.0
+      dropped_more (lines_of [] c.args.text.now) (lines_left c.loop.lines) (lines_left c.next_line.new.self) (c.loop.counter - 1) c.in-Some.field-0.now c.loop.invariant.1 c.in-Some.ensures.line.0
           ∙ ap (λ n. drop n (lines_of [] c.args.text.now)) e,
     )
 
-pub returns-in-default : goal.returns-in-default
-returns-in-default c =
-    sym (no_line (lines_of [] c.args.text.now) (c.loop.counter - 1) (c.args.number - 1) c.loop.invariant.0 (sym c.loop.invariant.1 ∙ c.in-default.ensures.line))
+pub returns-in_default : goal.returns-in_default
+returns-in_default c =
+    sym (no_line (lines_of [] c.args.text.now) (c.loop.counter - 1) (c.args.number - 1) c.loop.invariant.0 (sym c.loop.invariant.1 ∙ c.in_default.ensures.line))
 
 pub returns-in-None : goal.returns-in-None
 returns-in-None c =
     sym (no_line (lines_of [] c.args.text.now) (c.loop.counter - 1) (c.args.number - 1) c.loop.invariant.0 (sym c.loop.invariant.1 ∙ c.in-None.ensures.line))
 
-pub returns-in-Some-next-line : goal.returns-in-Some-next-line
-returns-in-Some-next-line c =
+pub returns-in-Some-next_line : goal.returns-in-Some-next_line
+returns-in-Some-next_line c =
     let e : c.loop.counter - 1 ≡ c.args.number - 1 = omega arith in
     sym (ap (line_at (lines_of [] c.args.text.now)) (sym e)
-    ∙ first_line (lines_of [] c.args.text.now) (c.loop.counter - 1) c.in-Some-next-line.line.now (lines_left c.next-line-2.new.self) (sym c.loop.invariant.1 ∙ c.in-Some-next-line.ensures.line.0))
+    ∙ first_line (lines_of [] c.args.text.now) (c.loop.counter - 1) c.in-Some-next_line.line.now (lines_left c.next_line-2.new.self) (sym c.loop.invariant.1 ∙ c.in-Some-next_line.ensures.line.0))

@@ -7,5 +7,5 @@ use Rattle.language.proofs.text.check_table.Goals as goal
 
 pub returns : goal.returns
 returns c =
-    c.check-columns.ensures
-    ∙ sym (ap is_some c.in-ok-table.ensures ∙ some_still (all_columns (ahead c.in-ok-table.table.columns.reader)) _)
+    c.check_columns.ensures
+    ∙ sym (ap is_some c.in_ok-table.ensures ∙ some_still (all_columns (ahead c.in_ok-table.table.columns.reader)) _)

@@ -6,13 +6,13 @@ pub returns-then-is : goal.returns-then-is
 unfolding read_aggregate
 returns-then-is c = search rules
 
-pub returns-in-default : goal.returns-in-default
+pub returns-in_default : goal.returns-in_default
 unfolding read_aggregate
-returns-in-default c = search rules
+returns-in_default c = search rules
 
-pub returns-in-err-column : goal.returns-in-err-column
+pub returns-in_err-column : goal.returns-in_err-column
 unfolding read_aggregate
-returns-in-err-column c = search rules
+returns-in_err-column c = search rules
 
 pub returns : goal.returns
 unfolding read_aggregate

@@ -5,16 +5,16 @@ use Rattle.language_statements.specs.Statements.{lone_number}
 use Rattle.language_statements.proofs.Stepped.{alone_is, alone_not}
 use Rattle.language_statements.proofs.steps.lone_number.Goals as goal
 
-pub returns-in-err-number : goal.returns-in-err-number
+pub returns-in_err-number : goal.returns-in_err-number
 unfolding lone_number
-returns-in-err-number c = search rules
+returns-in_err-number c = search rules
 
-pub returns-then-not-is-over : goal.returns-then-not-is-over
+pub returns-then-not-is_over : goal.returns-then-not-is_over
 unfolding lone_number
-returns-then-not-is-over c =
-    alone_not (read_number (ahead c.args.reader)) c.in-ok-number.number (ahead c.read-number.new.reader) c.in-ok-number.ensures.item (sym c.if-not-is-over.ensures)
+returns-then-not-is_over c =
+    alone_not (read_number (ahead c.args.reader)) c.in_ok-number.number (ahead c.read_number.new.reader) c.in_ok-number.ensures.item (sym c.if-not-is_over.ensures)
 
 pub returns : goal.returns
 unfolding lone_number
 returns c =
-    alone_is (read_number (ahead c.args.reader)) c.in-ok-number.number (ahead c.read-number.new.reader) c.in-ok-number.ensures.item (sym c.if-not-is-over.ensures)
+    alone_is (read_number (ahead c.args.reader)) c.in_ok-number.number (ahead c.read_number.new.reader) c.in_ok-number.ensures.item (sym c.if-not-is_over.ensures)

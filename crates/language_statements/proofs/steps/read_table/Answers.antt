@@ -5,5 +5,5 @@ use Rattle.language_statements.proofs.steps.read_table.Goals as goal
 
 pub returns : goal.returns
 returns c =
-    table_is (ahead c.args.reader) (ahead c.read-name.new.reader) (ahead c.read-number.new.reader) (ahead c.read-number.new.reader)
-    c.in-ok-name.name.now c.in-ok-rows.rows c.in-ok-name.ensures.item c.in-ok-rows.ensures.item refl
+    table_is (ahead c.args.reader) (ahead c.read_name.new.reader) (ahead c.read_number.new.reader) (ahead c.read_number.new.reader)
+    c.in_ok-name.name.now c.in_ok-rows.rows c.in_ok-name.ensures.item c.in_ok-rows.ensures.item refl

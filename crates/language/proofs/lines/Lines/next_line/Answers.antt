@@ -14,8 +14,8 @@ returns-then-n-rest c =
     record {
       short = short_behind c.args.self.now.rest.now _ _ c.behind-self.ensures.rest;
       line = (
-        next_cut c.args.self.now.over c.args.self.now.rest.now c.front.result.now c.behind-self.result.now c.line-length-n.result
-            c.if-self.false (c.line-length-n.ensures.cut c.if-n-rest.true) c.front.ensures c.behind-self.ensures.rest,
+        next_cut c.args.self.now.over c.args.self.now.rest.now c.front.result.now c.behind-self.result.now c.line_length-n.result
+            c.if-self.false (c.line_length-n.ensures.cut c.if-n-rest.true) c.front.ensures c.behind-self.ensures.rest,
         search rules,
         short_front c.args.self.now.rest.now _ _ c.front.ensures,
       );
@@ -27,8 +27,8 @@ returns c =
     record {
       short = le_refl _;
       line = (
-        next_last c.args.self.now.over c.args.self.now.rest.now c.front-2.result.now c.line-length-n.result
-            c.if-self.false (c.line-length-n.ensures.last c.if-n-rest.false) c.front-2.ensures,
+        next_last c.args.self.now.over c.args.self.now.rest.now c.front-2.result.now c.line_length-n.result
+            c.if-self.false (c.line_length-n.ensures.last c.if-n-rest.false) c.front-2.ensures,
         search rules,
         short_front c.args.self.now.rest.now _ _ c.front-2.ensures,
       );

@@ -8,7 +8,7 @@ use Rattle.language.proofs.question.StepsIterator.next.Goals as goal
 pub returns-in-Err : goal.returns-in-Err
 returns-in-Err c =
     record {
-      steps = no_step (left_in c.args.self.now.lines) (left_in c.next-reader.new.self) _ (ahead c.in-Some.reader) c.in-Some.ensures.line.lines c.in-Some.ensures.line.all c.in-Err.ensures;
+      steps = no_step (left_in c.args.self.now.lines) (left_in c.next_reader.new.self) _ (ahead c.in-Some.reader) c.in-Some.ensures.line.lines c.in-Some.ensures.line.all c.in-Err.ensures;
       goes = search rules;
     }
 
@@ -16,7 +16,7 @@ pub returns-in-Ok : goal.returns-in-Ok
 returns-in-Ok c =
     record {
       steps =
-          step_next c.args.self.now.lines c.next-reader.new.self _ (ahead c.in-Some.reader) c.in-Some.reader.line.now c.in-Ok.step
-          c.in-Some.ensures.line.lines c.in-Some.ensures.line.all c.in-Ok.ensures.0 c.in-Ok.ensures.1 c.in-Some.ensures.line.within c.next-reader.ensures.short;
+          step_next c.args.self.now.lines c.next_reader.new.self _ (ahead c.in-Some.reader) c.in-Some.reader.line.now c.in-Ok.step
+          c.in-Some.ensures.line.lines c.in-Some.ensures.line.all c.in-Ok.ensures.0 c.in-Ok.ensures.1 c.in-Some.ensures.line.within c.next_reader.ensures.short;
       goes = search (rules, fewer);
     }

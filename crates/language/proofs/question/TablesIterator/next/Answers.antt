@@ -8,7 +8,7 @@ pub returns-in-Ok : goal.returns-in-Ok
 returns-in-Ok c =
     record {
       steps =
-          table_next c.args.self.now.lines c.next-reader.new.self _ (ahead c.in-Some.reader) (ahead c.advance.new.self) c.in-Ok.table
+          table_next c.args.self.now.lines c.next_reader.new.self _ (ahead c.in-Some.reader) (ahead c.advance.new.self) c.in-Ok.table
           c.in-Some.ensures.line.lines c.in-Some.ensures.line.all c.if-not-is.ensures c.advance.ensures.pieces c.in-Ok.ensures;
       goes = search (rules, fewer);
     }

@@ -14,15 +14,15 @@ returns-then-is c =
 pub returns-in-Err : goal.returns-in-Err
 returns-in-Err c =
     record {
-      line = c.read-name.ensures.line;
+      line = c.read_name.ensures.line;
       item = keys_bad (ahead c.args.self.now.reader) (sym c.if-is.ensures) c.in-Err.ensures.item;
     }
 
 pub returns-in-Ok : goal.returns-in-Ok
 returns-in-Ok c =
     record {
-      line = c.read-name.ensures.line;
+      line = c.read_name.ensures.line;
       item =
-          keys_one (ahead c.args.self.now.reader) (ahead c.read-name.new.reader) c.in-Ok.name.now
+          keys_one (ahead c.args.self.now.reader) (ahead c.read_name.new.reader) c.in-Ok.name.now
           (sym c.if-is.ensures) c.in-Ok.ensures.item;
     }

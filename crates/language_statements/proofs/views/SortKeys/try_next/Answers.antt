@@ -4,14 +4,14 @@ use Rattle.language_statements.specs.Items.{read_key, all_keys, key_of}
 use Rattle.language_statements.proofs.Listed.{all_over, all_bad, list_one, orders_next, key_short}
 use Rattle.language_statements.proofs.views.SortKeys.try_next.Goals as goal
 
-pub returns-then-is-over : goal.returns-then-is-over
-returns-then-is-over c = record { line = refl; item = all_over read_key all_keys (ahead c.args.self.now.reader) orders_next (sym c.if-is-over.ensures) }
+pub returns-then-is_over : goal.returns-then-is_over
+returns-then-is_over c = record { line = refl; item = all_over read_key all_keys (ahead c.args.self.now.reader) orders_next (sym c.if-is_over.ensures) }
 
 pub returns-in-Err : goal.returns-in-Err
 returns-in-Err c =
     record {
       line = c.read_key.ensures.line;
-      item = all_bad read_key all_keys (ahead c.args.self.now.reader) orders_next (sym c.if-is-over.ensures) c.in-Err.ensures.item;
+      item = all_bad read_key all_keys (ahead c.args.self.now.reader) orders_next (sym c.if-is_over.ensures) c.in-Err.ensures.item;
     }
 
 pub returns-in-Ok : goal.returns-in-Ok
@@ -20,5 +20,5 @@ returns-in-Ok c =
       line = c.read_key.ensures.line;
       item =
           list_one read_key all_keys (ahead c.args.self.now.reader) (ahead c.read_key.new.reader) (key_of c.in-Ok.key) orders_next key_short
-          (sym c.if-is-over.ensures) c.in-Ok.ensures.item;
+          (sym c.if-is_over.ensures) c.in-Ok.ensures.item;
     }
