@@ -1,8 +1,8 @@
 -- The cutting of a line, a step at a time.
-use Rattle.std.proofs.Common.{◌≡◌, ℕ, zero, suc, ◌+◌, ◌-◌, ◌<◌, ◌≤◌, Bool, true, false, cond, ◌&&◌, ◌||◌, eqb, List, [], ◌∷◌, ◌++◌, length, get_or, take, drop, sym, refl, ap, ◌∙◌, append_assoc, append-nil, add-zero, add-one, arith, length-append, length-drop, drop-cons, take-suc, eq-eqb}
-use Rattle.std.proofs.lemmas.List.{drop_more, drop_all, take_more, take_all, drop-drop, get_or-drop}
+use Rattle.std.proofs.Common.{◌≡◌, ℕ, ◌+◌, ◌<◌, ◌≤◌, Bool, true, false, cond, ◌||◌, eqb, List, [], ◌∷◌, ◌++◌, length, get_or, take, drop, sym, refl, ap, ◌∙◌, add-zero, arith, length-append, length-drop, eq-eqb}
+use Rattle.std.proofs.lemmas.List.{drop_more, drop_all, take_more, drop-drop, get_or-drop}
 use Rattle.meaning.specs.Base.{Bytes}
-use Rattle.meaning.specs.Text.{is_word_byte, is_blank, CutState, between, inside_word, inside_quotes, half_sign, in_note, Cut, cut_then, begin_piece, next_byte, last_pieces, cut_line, tail_pieces}
+use Rattle.meaning.specs.Text.{is_word_byte, is_blank, CutState, between, inside_word, inside_quotes, half_sign, in_note, Cut, cut_then, begin_piece, next_byte, cut_line, tail_pieces}
 use Rattle.language_pieces.specs.Pieces.{cuts, is_half}
 
 -- pieces that were there come first

@@ -1,10 +1,10 @@
 -- Digits.
-use Rattle.std.proofs.Common.{◌≡◌, ℕ, zero, suc, ◌+◌, ◌-◌, ◌*◌, ◌<◌, ◌≤◌, Bool, true, false, cond, ◌&&◌, ltb, leb, List, [], ◌∷◌, length, get_or, drop, sym, refl, ap, ◌∙◌, arith, le-ltb, lt-ltb}
+use Rattle.std.proofs.Common.{◌≡◌, ℕ, zero, suc, ◌+◌, ◌-◌, ◌*◌, ◌<◌, ◌≤◌, Bool, true, false, cond, ltb, [], ◌∷◌, length, get_or, drop, refl, ap, ◌∙◌, arith, le-ltb, lt-ltb}
 use mathlib.Core.Option.{Option, some, none}
-use Rattle.std.proofs.lemmas.List.{drop_more, drop_all, drop-drop, get_or-drop}
+use Rattle.std.proofs.lemmas.List.{drop_more, drop_all}
 use Rattle.meaning.specs.Base.{and_then, when, Bytes}
 use Rattle.meaning.specs.Values.{num_limit}
-use Rattle.meaning.specs.Text.{is_digit, starts_with_digit, head_byte, digits, as_number}
+use Rattle.meaning.specs.Text.{is_digit, digits, as_number}
 
 abbrev pub reads_as : ℕ → Bytes → Option ℕ
 reads_as n w = and_then (digits n w) (λ k. when (ltb k num_limit) (some k))

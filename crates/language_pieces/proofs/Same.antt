@@ -1,10 +1,8 @@
 -- Bytes that are the same.
-use Rattle.std.proofs.Common.{◌≡◌, ℕ, Bool, true, false, ◌&&◌, eqb, List, [], ◌∷◌, Decides, sym, refl, ap, ◌∙◌, rules}
+use Rattle.std.proofs.Common.{◌≡◌, Bool, true, false, ◌&&◌, eqb, [], ◌∷◌, Decides, sym, refl, ap}
 use lib.Pointwise.{pointwise}
-use borrow.Author.Tests.{clash}
-use Rattle.std.proofs.lemmas.Slice.Eq.{slice_eq-Decides, IsBytesEq, compares_Decides}
+use Rattle.std.proofs.lemmas.Slice.Eq.{IsBytesEq, compares_Decides}
 use Rattle.meaning.specs.Base.{Bytes, same_bytes}
-use Rattle.std.proofs.lemmas.Bool.Decides.{Decides-eqb}
 
 compares : IsBytesEq same_bytes
 compares = record { empty = refl; shorter = λ y ys. refl; longer = λ x xs. refl; heads = λ x y xs ys. refl }

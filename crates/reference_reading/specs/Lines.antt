@@ -1,5 +1,5 @@
 -- What a line has left.
-use Rattle.std.specs.Prelude.{◌≡◌, ◌+◌, ◌<◌, vec_len, Result}
+use Rattle.std.specs.Prelude.{◌≡◌, ◌+◌, ◌<◌, vec_len}
 use Rattle.reference_reading.specs.declared.lines.Line.{Line}
 
 -- one piece is gone

@@ -1,4 +1,4 @@
-use Rattle.std.proofs.Common.{◌≡◌, [], ◌++◌, map, vec_items, codes, sym, ap, ◌∙◌}
+use Rattle.std.proofs.Common.{◌++◌, map, vec_items, codes, sym, ap, ◌∙◌}
 use Rattle.std.proofs.lemmas.List.{nil_from_length}
 use Rattle.reference_values.specs.Values.{meant}
 use Rattle.asking.specs.Listing.{line}

@@ -1,4 +1,4 @@
-use Rattle.std.proofs.Common.{sym, arith, eq-eqb, ne_eqb}
+use Rattle.std.proofs.Common.{arith, eq-eqb, ne_eqb}
 use Rattle.language_pieces.proofs.Cut.{quote_start, quote_more, quote_ends, quote_open}
 use Rattle.language_pieces.proofs.cutting.quote_length.Goals as goal
 

@@ -1,6 +1,4 @@
-use Rattle.std.proofs.Common.{Bool, cond, [], ◌∷◌, sym, refl, ap, ◌∙◌, rules}
-use Rattle.meaning.specs.Text.{tail_pieces}
-use Rattle.language_pieces.specs.Pieces.{cuts}
+use Rattle.std.proofs.Common.{refl, rules}
 use Rattle.language_pieces.specs.Views.{ahead}
 use Rattle.language_pieces.proofs.Cut.{goes_on, at_the_end}
 use Rattle.language_pieces.proofs.reader.Reader.advance.Goals as goal
