@@ -9,8 +9,8 @@ folder=$(mktemp -d)
 trap 'rm -rf "$folder"' EXIT
 
 rustc -O --edition 2021 -o "$folder/straightforward" "$root/bench/evaluate.rs"
-(cd "$root" && rt check bench_evaluate) >"$folder/log" 2>&1 || { cat "$folder/log" >&2; exit 1; }
-proved=$root/target/bin/bench_evaluate
+(cd "$root/crates/bench_evaluate" && rt run -- 0) >"$folder/log" 2>&1 || { cat "$folder/log" >&2; exit 1; }
+proved=$root/crates/bench_evaluate/out/bench_evaluate
 
 if [ "$("$proved" "$rows")" != "$("$folder/straightforward" "$rows")" ]; then
     echo "the two programs differ in their counts" >&2

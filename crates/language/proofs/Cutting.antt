@@ -1,9 +1,7 @@
 -- A text cut into lines.
-use Rattle.std.proofs.Common.{◌≡◌, ℕ, zero, suc, ◌+◌, ◌-◌, ◌<◌, ◌≤◌, Bool, true, false, cond, eqb, List, [], ◌∷◌, ◌++◌, length, get_or, take, drop, sym, refl, ap, ◌∙◌, append-nil, arith, length-drop, length-take, eq-eqb, ne_eqb}
-use borrow.Author.Tests.{clash}
+use Rattle.std.proofs.Common.{◌≡◌, ℕ, zero, suc, ◌+◌, ◌<◌, ◌≤◌, Bool, true, false, cond, List, [], ◌∷◌, ◌++◌, length, get_or, take, drop, sym, refl, ap, ◌∙◌, arith, length-drop, length-take, eq-eqb, ne_eqb}
 use Rattle.std.proofs.lemmas.List.{drop_more, drop_all, take_more}
-use Rattle.meaning.specs.Base.{Bytes}
-use Rattle.meaning.specs.Text.{lines_of, cut_lines, cut_line, between}
+use Rattle.meaning.specs.Text.{lines_of}
 use Rattle.language_pieces.specs.Pieces.{cuts}
 use Rattle.language_pieces.specs.Pieces.{none_left}
 use Rattle.language.specs.Lines.{numbered, later, lines_left, left_in, line_at}

@@ -1,5 +1,5 @@
 -- The lines before the steps, and those of the steps, one after another.
-use Rattle.std.proofs.Common.{◌≡◌, ℕ, ◌<◌, Bool, true, false, cond, List, [], ◌∷◌, length, codes, sym, refl, ap, ◌∙◌, subst, arith}
+use Rattle.std.proofs.Common.{◌≡◌, ◌<◌, Bool, true, false, cond, List, ◌∷◌, length, codes, sym, refl, ap, ◌∙◌, arith}
 use mathlib.Core.Option.{Option, some, none}
 use borrow.Author.Tests.{clash}
 use Rattle.meaning.specs.Base.{map_or, and_then, is_some, Bytes, same_bytes}
@@ -7,7 +7,7 @@ use Rattle.meaning.specs.Steps.{Decl, Step}
 use Rattle.meaning.specs.Text.{head_piece, tail_pieces, table_line}
 use Rattle.language_statements.specs.Statements.{lone_name}
 use Rattle.language.specs.Lines.{Line}
-use Rattle.language.specs.Questions.{pieces, step_in, steps_in, head_in, After, after_tables, wrong_step, wrong_in}
+use Rattle.language.specs.Questions.{pieces, step_in, steps_in, head_in, after_tables, wrong_step, wrong_in}
 
 pub some_still : {A C : Type 0} (o : Option A) (f : A → C) → is_some (and_then o (λ x. some (f x))) ≡ is_some o
 some_still none f = refl

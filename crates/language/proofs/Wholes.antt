@@ -1,5 +1,5 @@
 -- A whole question, from its lines.
-use Rattle.std.proofs.Common.{◌≡◌, ℕ, suc, ◌+◌, ◌≤◌, min, Bool, true, false, cond, eqb, List, [], ◌∷◌, ◌++◌, length, is_err, IsErrAnd, Ok, Err, codes, Option as Given, Result, sym, refl, ap, ◌∙◌, subst, append_assoc, append-nil, arith, Bor}
+use Rattle.std.proofs.Common.{◌≡◌, ℕ, suc, ◌+◌, ◌≤◌, Bool, true, false, cond, eqb, List, [], ◌∷◌, ◌++◌, length, is_err, IsErrAnd, Ok, Err, codes, Option as Given, Result, sym, refl, ap, ◌∙◌, subst, append_assoc, append-nil, arith, Bor}
 use mathlib.Core.Option.{Option, some, none}
 use borrow.Author.Tests.{clash}
 use Rattle.meaning.specs.Base.{map_or, and_then, is_some, Bytes, same_bytes}
@@ -9,11 +9,11 @@ use Rattle.language_pieces.specs.Pieces.{cuts, none_left}
 use Rattle.language_pieces.specs.declared.faults.Fault.{Fault}
 use Rattle.language_statements.specs.Statements.{lone_name}
 use Rattle.language.specs.Lines.{Line, numbered, later, lines_left, left_in}
-use Rattle.language.specs.Questions.{pieces, step_in, steps_in, head_in, After, after_tables, tables_in, wrong_step, wrong_in, wrong_line, Blames, BlamesFirst, BlamesLine, Asks, Read, HeadRead}
+use Rattle.language.specs.Questions.{pieces, step_in, steps_in, head_in, After, after_tables, tables_in, wrong_step, wrong_in, wrong_line, Blames, BlamesFirst, Read, HeadRead}
 use Rattle.language.specs.declared.lines.Lines.{Lines}
 use Rattle.language.specs.declared.faults.NotAQuestion.{NotAQuestion}
 use Rattle.language.specs.declared.question.Question.{Question}
-use Rattle.language.proofs.Heads.{some_of, none_of}
+use Rattle.language.proofs.Heads.{some_of}
 
 -- a refusal
 pub no_head : (r : Result (Given (Bor Bytes)) Fault) (o : Option (Option Bytes)) → is_err r ≡ true → o ≡ none → HeadRead r o

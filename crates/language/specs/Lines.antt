@@ -1,5 +1,5 @@
 -- The lines of a text that have pieces, with their numbers.
-use Rattle.std.specs.Prelude.{◌≡◌, ℕ, zero, suc, ◌+◌, ◌≤◌, min, Bool, false, cond, List, [], ◌∷◌, length}
+use Rattle.std.specs.Prelude.{◌≡◌, ℕ, zero, suc, ◌+◌, ◌≤◌, min, false, cond, List, [], ◌∷◌, length}
 use Rattle.meaning.specs.Text.{lines_of}
 use Rattle.language_pieces.specs.Pieces.{cuts, none_left}
 use Rattle.language_pieces.specs.Views.{ahead}

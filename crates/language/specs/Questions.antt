@@ -1,5 +1,5 @@
 -- A whole question, from its lines; and where a text that asks none goes wrong.
-use Rattle.std.specs.Prelude.{◌≡◌, ℕ, suc, ◌+◌, ◌-◌, ◌*◌, ◌≤◌, Bool, true, cond, List, [], ◌∷◌, length, take, drop, Some, None, Ok, Err, codes, Option as Given, Result, ◌==◌}
+use Rattle.std.specs.Prelude.{◌≡◌, ℕ, suc, ◌+◌, ◌-◌, ◌*◌, ◌≤◌, true, cond, List, [], ◌∷◌, length, take, drop, Some, None, Ok, Err, codes, Option as Given, Result, ◌==◌}
 use Rattle.std.specs.Borrow.{Bor}
 use Rattle.std.proofs.Math.Option.{Option, some, none}
 use Rattle.meaning.specs.Base.{map_or, and_then, is_some, Bytes, same_bytes}

@@ -1,6 +1,6 @@
 -- The tables and the steps of a question, one after another.
-use Rattle.std.specs.Prelude.{◌≡◌, ℕ, ◌<◌, ◌≤◌, List, ◌∷◌, length}
-use Rattle.std.proofs.Math.Option.{Option, some}
+use Rattle.std.specs.Prelude.{◌≡◌, ℕ, ◌<◌, ◌≤◌, ◌∷◌, length}
+use Rattle.std.proofs.Math.Option.{some}
 use Rattle.meaning.specs.Base.{and_then}
 use Rattle.code.specs.Room.{code_words, mark_words}
 use Rattle.language_statements.specs.Statements.{step_of, table_of, EnoughFor}

@@ -1,9 +1,9 @@
 -- Readers bound one after another: what is left is shorter, and equal parts make equal wholes.
-use Rattle.std.proofs.Common.{◌≡◌, ℕ, zero, suc, ◌+◌, ◌*◌, ◌<◌, ◌≤◌, Bool, true, false, cond, List, [], ◌∷◌, ◌++◌, length, sym, refl, ap, ◌∙◌, arith}
+use Rattle.std.proofs.Common.{◌≡◌, ℕ, ◌<◌, Bool, true, false, cond, List, [], ◌∷◌, length, refl, ap, ◌∙◌, arith}
 use mathlib.Core.Option.{Option, some, none}
 use borrow.Author.Tests.{clash}
-use Rattle.meaning.specs.Base.{map_or, and_then, when, or_else, Bytes, same_bytes}
-use Rattle.meaning.specs.Text.{Parsed, parsed, then_read, expect, head_piece, tail_pieces}
+use Rattle.meaning.specs.Base.{map_or, Bytes, same_bytes}
+use Rattle.meaning.specs.Text.{Parsed, then_read, expect, head_piece, tail_pieces}
 
 -- what is left, if anything was read, has fewer than n pieces
 abbrev pub Short : {A : Type 0} → ℕ → Option (Parsed A) → Type 0

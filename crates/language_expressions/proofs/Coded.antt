@@ -1,23 +1,20 @@
 -- The machine as the engine has it: frames hold no expressions, the code of what is read grows behind.
-use Rattle.std.proofs.Common.{◌≡◌, ℕ, zero, suc, ◌+◌, ◌-◌, ◌*◌, ◌<◌, ◌≤◌, Bool, true, false, cond, List, [], ◌∷◌, ◌++◌, length, codes, sym, refl, ap, ◌∙◌, append_assoc, append-nil, arith}
+use Rattle.std.proofs.Common.{◌≡◌, ℕ, Bool, true, false, cond, List, [], ◌∷◌, ◌++◌, codes, sym, refl, ap, ◌∙◌, append_assoc, append-nil}
 use mathlib.Core.Option.{Option, some, none}
 use Rattle.meaning.specs.Base.{map_or, and_then, each, Bytes, same_bytes}
-use Rattle.meaning.specs.Values.{Ty, t_num, t_word, Op, op_arith, op_compare, op_logic, op_add, op_sub, op_mul, op_div, op_rem, op_eq, op_ne, op_lt, op_le, op_and, op_or, Expr, e_num, e_word, e_null, e_col, e_op, e_not, e_none, e_if}
-use Rattle.meaning.specs.Text.{Parsed, parsed, then_read, expect, head_piece, tail_pieces, at_end, read_to_end, read_type, as_number, as_word, is_name, level_op, comparison_op, expression, fuel}
-use Rattle.language_expressions.proofs.Bind.{Short, cond_ind, opt_ind, cond_same, opt_same}
-use Rattle.language_expressions.proofs.Grammar.{R, Parser, atom}
-use Rattle.language_expressions.proofs.Free.{Any}
+use Rattle.meaning.specs.Values.{t_num, t_word, Op, op_arith, op_compare, op_logic, op_add, op_sub, op_mul, op_div, op_rem, op_eq, op_ne, op_lt, op_le, op_and, op_or, Expr, e_num, e_word, e_null, e_col}
+use Rattle.meaning.specs.Text.{Parsed, parsed, head_piece, tail_pieces, read_type, as_number, as_word, is_name, level_op, comparison_op}
+use Rattle.language_expressions.proofs.Bind.{cond_same}
+use Rattle.language_expressions.proofs.Grammar.{atom}
 use Rattle.language_pieces.proofs.Same.{same_turned}
 use Rattle.values.specs.Types.{op_of}
-use Rattle.code.specs.Postfix.{Instr, i_num, i_word, i_null, i_col, i_op, i_not, i_none, i_if, postfix}
-use Rattle.language_expressions.specs.Machine.{operator, chain_level, tighter, State, wants, has, Outcome, goes_on, comes_to, fails, must, leaf, none_turn, primary_turn, operand_turn, end_turn, operator_turn, turn}
+use Rattle.code.specs.Postfix.{Instr, i_num, i_word, i_null, i_col, i_none, postfix}
+use Rattle.language_expressions.specs.Machine.{operator, chain_level, State, wants, has, Outcome, goes_on, comes_to, fails, must, leaf, primary_turn, operand_turn, operator_turn, turn}
 use Rattle.language_expressions.specs.declared.machine.Level.{Level as Lv}
 use Rattle.language_expressions.specs.declared.machine.Level.TheVariants.{If as l-if, Or as l-or, And as l-and, Not as l-not, Sum as l-sum, Product as l-product, Primary as l-primary}
-use Rattle.language_expressions.specs.declared.machine.Chain.{Chain}
-use Rattle.language_expressions.specs.declared.machine.Chain.TheVariants.{Ors, Ands, Sums, Products}
 use Rattle.language_expressions.specs.declared.machine.Mark.{Mark}
 use Rattle.language_expressions.specs.declared.machine.Mark.TheVariants.{Chain as m-chain, Applied as m-applied, Comparison as m-comparison, Compared as m-compared, Not as m-not, Paren as m-paren, NoneParen as m-none, Then as m-then, Else as m-else, End as m-end}
-use Rattle.language_expressions.proofs.Frames.{Frame, f_on, f_op, f_cmp, f_cmp2, f_not, f_rp, f_rpn, f_if1, f_if2, f_if3, St, want, have, Out, go, done, fail, comes, comes_out, must_out, or_fail, step_small, step_want, the_end, step_have, step, step_right, left, Falls, step_falls}
+use Rattle.language_expressions.proofs.Frames.{Frame, f_on, f_op, f_cmp, f_cmp2, f_not, f_rp, f_rpn, f_if1, f_if2, f_if3, St, want, have, Out, go, done, fail, must_out, or_fail, step_small, step_want, step_have, step}
 
 -- how a state looks there
 abbrev pub mark : Frame → Mark

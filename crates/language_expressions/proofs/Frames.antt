@@ -1,13 +1,12 @@
 -- The reading of an expression as a machine: a turn for each piece or frame.
-use Rattle.std.proofs.Common.{◌≡◌, ℕ, zero, suc, ◌+◌, ◌-◌, ◌*◌, ◌<◌, ◌≤◌, Bool, true, false, cond, List, [], ◌∷◌, ◌++◌, length, codes, sym, refl, ap, ◌∙◌, append_assoc, append-nil, arith}
+use Rattle.std.proofs.Common.{◌≡◌, ℕ, suc, ◌+◌, ◌*◌, ◌<◌, ◌≤◌, Bool, true, false, cond, List, [], ◌∷◌, length, codes, sym, refl, ap, ◌∙◌, arith}
 use mathlib.Core.Option.{Option, some, none}
-use Rattle.meaning.specs.Base.{map_or, and_then, when, or_else, Bytes, same_bytes}
-use Rattle.meaning.specs.Values.{Ty, Op, Expr, e_num, e_word, e_null, e_col, e_op, e_not, e_none, e_if}
-use Rattle.meaning.specs.Text.{Parsed, parsed, then_read, expect, head_piece, tail_pieces, at_end, read_to_end, read_type, level_op, comparison_op, expression, fuel}
+use Rattle.meaning.specs.Base.{map_or, Bytes, same_bytes}
+use Rattle.meaning.specs.Values.{Op, Expr, e_null, e_op, e_not, e_none, e_if}
+use Rattle.meaning.specs.Text.{Parsed, then_read, expect, head_piece, tail_pieces, at_end, read_type, level_op, comparison_op}
 use Rattle.language_expressions.proofs.Bind.{Short, cond_ind, opt_ind, cond_same, opt_same, must_same, after_less}
-use Rattle.language_expressions.proofs.Grammar.{R, Parser, BExpr, BCmp, BOn, BSmall, atom, type_short, atom_short, op_shorter, comparison_shorter}
-use Rattle.language_expressions.proofs.Free.{Any, Level, Compared, Chained, Primary, any_is, compared_is, primary_is, chained_is, level_1, level_2, level_3, level_4, level_5, level_6}
-use Rattle.code.specs.Postfix.{Instr, i_num, i_word, i_null, i_col, i_op, i_not, i_none, i_if, postfix}
+use Rattle.language_expressions.proofs.Grammar.{Parser, atom, type_short, atom_short, op_shorter, comparison_shorter}
+use Rattle.language_expressions.proofs.Free.{Any, Level, Compared, Chained, any_is, compared_is, primary_is, chained_is, level_1, level_2, level_3, level_4, level_5, level_6}
 use Rattle.language_expressions.specs.Machine.{chain_level, tighter}
 use Rattle.language_expressions.specs.declared.machine.Level.{Level as Lv}
 use Rattle.language_expressions.specs.declared.machine.Level.TheVariants.{If as l-if, Or as l-or, And as l-and, Not as l-not, Sum as l-sum, Product as l-product, Primary as l-primary}

@@ -1,11 +1,10 @@
 -- The readers without a bound, and the equations that they meet.
-use Rattle.std.proofs.Common.{◌≡◌, ℕ, zero, suc, ◌+◌, ◌-◌, ◌*◌, ◌<◌, ◌≤◌, Bool, true, false, List, [], ◌∷◌, ◌++◌, length, sym, refl, ap, ◌∙◌, arith}
-use mathlib.Core.Option.{Option, some, none}
-use Rattle.meaning.specs.Base.{map_or, and_then, when, or_else, Bytes, same_bytes}
-use Rattle.meaning.specs.Values.{Ty, Expr, e_num, e_word, e_null, e_col, e_op, e_not, e_none, e_if}
-use Rattle.meaning.specs.Text.{Parsed, parsed, then_read, expect, head_piece, tail_pieces, level_op, expression, at_level, comparison_at, op_chain, primary, fuel}
+use Rattle.std.proofs.Common.{◌≡◌, ℕ, suc, ◌+◌, ◌≤◌, List, [], ◌∷◌, length, refl, ◌∙◌, arith}
+use Rattle.meaning.specs.Base.{Bytes}
+use Rattle.meaning.specs.Values.{Expr}
+use Rattle.meaning.specs.Text.{then_read, expression, at_level, comparison_at, op_chain, primary, fuel}
 use Rattle.language_expressions.proofs.Bind.{bind_same}
-use Rattle.language_expressions.proofs.Grammar.{R, Parser, BExpr, BCmp, BOn, BSmall, bc_expr, bc_cmp, bc_on, bc_small, s_small, sh_expr, sh_lev, sh_cmp, sh_on, sh_small, st_expr, st_lev, st_cmp, st_on, st_small}
+use Rattle.language_expressions.proofs.Grammar.{Parser, BExpr, BCmp, BOn, BSmall, bc_expr, bc_cmp, bc_on, bc_small, sh_expr, sh_lev, sh_cmp, st_expr, st_lev, st_cmp, st_on, st_small}
 
 unfoldable pub Any : Parser
 Any line = expression (fuel line) line

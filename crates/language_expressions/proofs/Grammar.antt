@@ -1,10 +1,10 @@
 -- The grammar without its bound: each reader's body over the readers that it calls; what is left is shorter; the bound is enough.
-use Rattle.std.proofs.Common.{◌≡◌, ℕ, zero, suc, ◌+◌, ◌-◌, ◌*◌, ◌<◌, ◌≤◌, Bool, true, false, cond, eqb, List, [], ◌∷◌, ◌++◌, length, codes, sym, refl, ap, ◌∙◌, arith, eqb-true}
+use Rattle.std.proofs.Common.{◌≡◌, ℕ, zero, suc, ◌+◌, ◌-◌, ◌*◌, ◌<◌, ◌≤◌, cond, eqb, List, [], ◌∷◌, length, codes, refl, arith, eqb-true}
 use mathlib.Core.Option.{Option, some, none}
-use borrow.Author.Tests.{clash, eqb-false}
-use Rattle.meaning.specs.Base.{map_or, and_then, when, or_else, Bytes, same_bytes}
+use borrow.Author.Tests.{eqb-false}
+use Rattle.meaning.specs.Base.{map_or, Bytes, same_bytes}
 use Rattle.meaning.specs.Values.{Ty, Op, Expr, e_num, e_word, e_null, e_col, e_op, e_not, e_none, e_if}
-use Rattle.meaning.specs.Text.{Parsed, parsed, then_read, expect, head_piece, tail_pieces, read_type, as_number, as_word, is_name, level_op, comparison_op, expression, at_level, comparison_at, op_chain, primary, fuel}
+use Rattle.meaning.specs.Text.{Parsed, parsed, then_read, expect, head_piece, tail_pieces, read_type, as_number, as_word, is_name, level_op, comparison_op, expression, at_level, comparison_at, op_chain, primary}
 use Rattle.language_expressions.proofs.Bind.{Short, cond_ind, cond_same, bind_short, must_short, bind_same, must_same, opt_same, opt_ind, after_less}
 
 abbrev pub R : Type 0

@@ -3,8 +3,8 @@ use Rattle.std.proofs.Common.{◌≡◌, ℕ, Bool, true, false, cond, List, [],
 use mathlib.Core.Option.{Option, some, none}
 use borrow.Author.Tests.{clash}
 use Rattle.meaning.specs.Base.{each, map_or, Bytes}
-use Rattle.meaning.specs.Text.{head_piece, is_name, as_number, as_word}
-use Rattle.code.specs.Postfix.{Instr, i_num, i_word, i_col}
+use Rattle.meaning.specs.Text.{head_piece, is_name}
+use Rattle.code.specs.Postfix.{i_num, i_word, i_col}
 use Rattle.language_pieces.specs.Pieces.{cuts, name_at}
 use Rattle.language_pieces.specs.Views.{ahead}
 use Rattle.language_pieces.specs.declared.reader.Reader.{Reader}

@@ -1,9 +1,8 @@
 -- There is room for marks and code, and what the loop over turns keeps.
-use Rattle.std.proofs.Common.{◌≡◌, ℕ, zero, suc, ◌+◌, ◌-◌, ◌*◌, ◌<◌, ◌≤◌, Bool, true, false, cond, List, [], ◌∷◌, ◌++◌, length, drop, sym, refl, ap, ◌∙◌, subst, arith, length-append, length-drop}
-use mathlib.Core.Option.{Option, some, none}
+use Rattle.std.proofs.Common.{◌≡◌, ℕ, zero, suc, ◌+◌, ◌*◌, ◌<◌, ◌≤◌, Bool, true, false, cond, List, [], ◌∷◌, length, drop, sym, refl, ap, ◌∙◌, subst, arith, length-drop}
+use mathlib.Core.Option.{Option}
 use Rattle.meaning.specs.Base.{Bytes, each}
 use Rattle.meaning.specs.Values.{Expr}
-use Rattle.meaning.specs.Text.{read_to_end, expression, fuel}
 use Rattle.code.specs.Postfix.{Instr, map_col}
 use Rattle.code.specs.Views.{code_on}
 use Rattle.code.specs.declared.code.Code.{Code}
@@ -12,7 +11,7 @@ use Rattle.language_pieces.specs.Pieces.{cuts, name_at}
 use Rattle.language_pieces.specs.Views.{ahead}
 use Rattle.language_pieces.specs.declared.reader.Reader.{Reader}
 use Rattle.language_pieces.proofs.Cut.{cuts_few}
-use Rattle.language_expressions.specs.Machine.{outcome, State, wants, has, Outcome, goes_on, comes_to, fails, turn, operand_turn, operator_turn}
+use Rattle.language_expressions.specs.Machine.{outcome, State, wants, has, Outcome, goes_on, turn, operand_turn, operator_turn}
 use Rattle.language_expressions.specs.Marks.{marks_in}
 use Rattle.language_expressions.specs.Views.{marks_on, named_code, whole_expression}
 use Rattle.language_expressions.specs.declared.machine.Level.{Level}

@@ -1,12 +1,12 @@
 -- What a loop over turns keeps: a state of the machine that looks so and comes to what the definitions say.
-use Rattle.std.proofs.Common.{◌≡◌, ℕ, zero, suc, ◌+◌, ◌-◌, ◌*◌, ◌<◌, ◌≤◌, Bool, true, false, List, [], ◌∷◌, ◌++◌, length, codes, sym, refl, ap, ◌∙◌, arith, length-append}
+use Rattle.std.proofs.Common.{◌≡◌, ℕ, suc, ◌+◌, ◌*◌, ◌<◌, ◌≤◌, true, false, List, [], ◌∷◌, ◌++◌, length, codes, sym, refl, ap, ◌∙◌, arith, length-append}
 use mathlib.Core.Option.{Option, some, none}
 use borrow.Author.Tests.{clash}
-use Rattle.meaning.specs.Base.{map_or, and_then, each, Bytes, same_bytes}
+use Rattle.meaning.specs.Base.{and_then, Bytes, same_bytes}
 use Rattle.meaning.specs.Values.{Expr, t_num, t_word}
-use Rattle.meaning.specs.Text.{read_to_end, expression, fuel, head_piece, tail_pieces, read_type, level_op, comparison_op, as_number, as_word, is_name}
-use Rattle.language_expressions.proofs.Bind.{Short, cond_ind, opt_ind, after_less}
-use Rattle.language_expressions.proofs.Grammar.{type_short, op_shorter, comparison_shorter}
+use Rattle.meaning.specs.Text.{read_to_end, expression, fuel, head_piece, tail_pieces, level_op, comparison_op}
+use Rattle.language_expressions.proofs.Bind.{cond_ind, opt_ind, after_less}
+use Rattle.language_expressions.proofs.Grammar.{op_shorter, comparison_shorter}
 use Rattle.language_expressions.proofs.Free.{Any}
 use Rattle.values.specs.Types.{op_of}
 use Rattle.values.specs.declared.types.Operator.{Operator}
@@ -18,7 +18,7 @@ use Rattle.language_expressions.specs.declared.machine.Chain.{Chain}
 use Rattle.language_expressions.specs.declared.machine.Chain.TheVariants.{Ors, Ands, Sums, Products}
 use Rattle.language_expressions.specs.declared.machine.Mark.{Mark}
 use Rattle.language_expressions.specs.declared.machine.Mark.TheVariants.{Chain as m-chain, Applied as m-applied, Comparison as m-comparison, Compared as m-compared, Not as m-not, Paren as m-paren, NoneParen as m-none, Then as m-then, Else as m-else, End as m-end}
-use Rattle.language_expressions.proofs.Frames.{Frame, St, want, have, Out, go, done, fail, comes, comes_out, step, step_right, weight}
+use Rattle.language_expressions.proofs.Frames.{St, want, Out, go, done, fail, comes, comes_out, step, step_right, weight}
 use Rattle.language_expressions.proofs.Coded.{seen, seen_out, same_turn}
 
 -- how many turns there may be

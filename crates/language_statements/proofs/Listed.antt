@@ -1,9 +1,8 @@
 -- Lists of items: what is read item by item is the list of the definitions.
-use Rattle.std.proofs.Common.{◌≡◌, ℕ, zero, suc, ◌+◌, ◌<◌, ◌≤◌, Bool, true, false, cond, List, [], ◌∷◌, length, codes, sym, refl, ap, ◌∙◌, subst, arith}
+use Rattle.std.proofs.Common.{◌≡◌, ℕ, zero, suc, ◌<◌, ◌≤◌, Bool, true, false, cond, List, [], ◌∷◌, length, codes, sym, refl, ap, ◌∙◌, subst, arith}
 use mathlib.Core.Option.{Option, some, none}
 use borrow.Author.Tests.{clash}
-use Rattle.meaning.specs.Base.{map_or, and_then, when, is_some, Bytes, same_bytes}
-use Rattle.meaning.specs.Values.{Ty, t_num, t_word}
+use Rattle.meaning.specs.Base.{and_then, when, is_some, Bytes, same_bytes}
 use Rattle.meaning.specs.Steps.{StoredCol, NamedAgg, SortKey, Agg, a_count, a_sum, a_min, a_max, a_first}
 use Rattle.meaning.specs.Text.{Parsed, parsed, then_read, expect, at_end, head_piece, tail_pieces, read_name, read_number, read_type, read_agg, is_name, as_number, read_names, read_keys, read_aggs, names_to_colon, read_columns}
 use Rattle.language_pieces.specs.Pieces.{none_left}

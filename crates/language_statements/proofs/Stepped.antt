@@ -1,15 +1,15 @@
 -- Steps: the definitions, by the word that a step begins with.
-use Rattle.std.proofs.Common.{◌≡◌, ℕ, suc, ◌+◌, ◌*◌, ◌≤◌, Bool, true, false, cond, List, [], ◌∷◌, length, is_err, Ok, Err, codes, Result, sym, refl, ap, ◌∙◌, subst, arith}
+use Rattle.std.proofs.Common.{◌≡◌, ℕ, Bool, true, false, cond, List, [], ◌∷◌, length, is_err, Ok, Err, codes, Result, sym, refl, ap, ◌∙◌, subst, arith}
 use mathlib.Core.Option.{Option, some, none}
 use borrow.Author.Tests.{clash}
 use Rattle.meaning.specs.Base.{and_then, Bytes, same_bytes}
-use Rattle.meaning.specs.Steps.{Decl, StoredCol, Step, s_join}
+use Rattle.meaning.specs.Steps.{Step, s_join}
 use Rattle.meaning.specs.Text.{Parsed, parsed, then_read, expect, at_end, read_to_end, read_name, read_number, join_line as join-text, step_line, table_line, read_columns}
 use Rattle.language_pieces.specs.Pieces.{none_left}
 use Rattle.language_expressions.specs.Views.{whole_expression}
 use Rattle.language_expressions.proofs.Bind.{must_same}
 use Rattle.language_statements.specs.Items.{behind_piece, all_names, keys_to_colon, all_keys, all_aggs, all_columns}
-use Rattle.language_statements.specs.Statements.{verb_named, verb_line, read_pair, pair_of, join_line, lone_name, lone_number, StepRead, Compared, step_of, OnLine}
+use Rattle.language_statements.specs.Statements.{verb_named, verb_line, read_pair, pair_of, join_line, lone_name, lone_number, StepRead, Compared}
 use Rattle.language_pieces.specs.declared.faults.Fault.{Fault}
 use Rattle.language_statements.specs.declared.views.Pair.{Pair}
 use Rattle.language_statements.specs.declared.views.Verb.{Verb}

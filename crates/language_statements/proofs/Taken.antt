@@ -1,6 +1,6 @@
 -- One item, by cases of what is ahead.
-use Rattle.std.proofs.Common.{◌≡◌, ℕ, ◌<◌, Bool, true, false, cond, List, [], ◌∷◌, length, sym, refl, ap, ◌∙◌, arith}
-use mathlib.Core.Option.{Option, some, none}
+use Rattle.std.proofs.Common.{◌≡◌, ◌<◌, true, false, cond, List, [], ◌∷◌, length, sym, refl, ap, ◌∙◌, arith}
+use mathlib.Core.Option.{some, none}
 use borrow.Author.Tests.{clash}
 use Rattle.meaning.specs.Base.{Bytes, same_bytes}
 use Rattle.meaning.specs.Text.{parsed, head_piece, tail_pieces, read_name, is_name}

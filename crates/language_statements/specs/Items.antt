@@ -1,5 +1,5 @@
 -- The parts of statements that are read one by one, and the lists of them.
-use Rattle.std.specs.Prelude.{ℕ, suc, Bool, true, false, cond, List, [], ◌∷◌, length, codes}
+use Rattle.std.specs.Prelude.{suc, Bool, true, false, cond, List, [], length, codes}
 use Rattle.std.proofs.Math.Option.{Option, some, none}
 use Rattle.meaning.specs.Base.{and_then, Bytes, same_bytes}
 use Rattle.meaning.specs.Steps.{StoredCol, Agg, a_sum, a_count, a_min, a_max, a_first, NamedAgg, SortKey}

@@ -1,6 +1,6 @@
 -- Lists that are read item by item.
 use Rattle.std.specs.Borrow.{Bor}
-use Rattle.std.specs.Prelude.{◌≡◌, ℕ, ◌<◌, Bool, true, List, [], ◌∷◌, length, Some, None, Ok, Err, Option as Given, Result}
+use Rattle.std.specs.Prelude.{◌≡◌, ◌<◌, Bool, true, List, [], ◌∷◌, length, Some, None, Ok, Err, Option as Given, Result}
 use Rattle.std.proofs.Math.Option.{Option, some, none}
 use Rattle.meaning.specs.Base.{and_then, is_some, Bytes}
 use Rattle.meaning.specs.Steps.{NamedAgg}

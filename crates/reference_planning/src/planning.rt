@@ -8,8 +8,8 @@ use reference_reading::questions::*;
 use reference_reading::spans::*;
 use std::alloc::Global;
 
-fn at_line<T: Drop>(line: usize, res: Result<T, Unsound>) -> Result<T, NotSound> {
-    match res {
+fn at_line<T: Drop>(line: usize, outcome: Result<T, Unsound>) -> Result<T, NotSound> {
+    match outcome {
         Ok(value) => Ok(value),
         Err(fault) => Err(NotSound { line, fault }),
     }

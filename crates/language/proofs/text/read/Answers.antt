@@ -1,7 +1,7 @@
 use Rattle.std.proofs.Common.{Ok, refl, subst, arith}
 use Rattle.language.specs.Lines.{left_in}
 use Rattle.language.specs.Questions.{HeadsRead}
-use Rattle.language.proofs.Wholes.{LinesOf, first_lines, heads_refused, from_missing, steps_refused, found, handed_on}
+use Rattle.language.proofs.Wholes.{first_lines, heads_refused, from_missing, steps_refused, found, handed_on}
 use Rattle.language.proofs.text.read.Goals as goal
 
 pub returns-in_err-told : goal.returns-in_err-told

@@ -1,4 +1,3 @@
-use Rattle.std.proofs.Common.{sym, ap, ◌∙◌}
 use mathlib.Core.Option.{some, none}
 use Rattle.language_pieces.specs.Views.{ahead}
 use Rattle.language.specs.Questions.{head_in}

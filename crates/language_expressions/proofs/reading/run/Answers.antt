@@ -1,8 +1,7 @@
-use Rattle.std.proofs.Common.{◌≡◌, ◌+◌, ◌*◌, ◌≤◌, length, sym, refl, ap, ◌∙◌, subst, arith}
+use Rattle.std.proofs.Common.{◌≡◌, refl, ◌∙◌, subst, arith}
 use Rattle.language_pieces.specs.Views.{ahead}
-use Rattle.language_expressions.specs.Machine.{wants, has, goes_on, outcome, operand_turn, operator_turn}
+use Rattle.language_expressions.specs.Machine.{wants, has, outcome, operand_turn}
 use Rattle.language_expressions.specs.Views.{marks_on, named_code}
-use Rattle.language_expressions.proofs.Standing.{Holds}
 use Rattle.language_expressions.proofs.Room.{code_count, start, holds_want, holds_got, marks_room, code_room, got_room, next_holds, want_falls, got_falls}
 use Rattle.language_expressions.proofs.reading.run.Goals as goal
 

@@ -1,6 +1,5 @@
 use Rattle.std.proofs.Common.{◌≡◌, ◌+◌, ◌*◌, ◌≤◌, length}
 use Rattle.language_pieces.specs.Views.{ahead}
-use Rattle.code.specs.Room.{instruction_limit, mark_words}
 use Rattle.language_expressions.specs.Machine.{outcome}
 use Rattle.language_expressions.specs.Views.{marks_on, named_code, whole_expression}
 use Rattle.language_expressions.proofs.Standing.{Holds, rest1}

@@ -1,4 +1,4 @@
-use Rattle.std.proofs.Common.{length, ◌∙◌, rules}
+use Rattle.std.proofs.Common.{rules}
 use Rattle.language_pieces.specs.Views.{ahead}
 use Rattle.language.specs.Lines.{left_in}
 use Rattle.language.proofs.Heads.{fewer}
