@@ -12,8 +12,12 @@ import re
 import sys
 
 TOKEN = re.compile(r"(?:«[^»\n]*»|[\w'ℕ′]+(?:-[\w'ℕ′*+≤<≡]+)*)")
-DEFINED = re.compile(r"^(?P<in> *)(?:(?:abbrev|unfoldable|pub|data|record|ruleset) )*(?P<name>[\w'ℕ]+(?:-[\w'ℕ]+)*)(?P<args>(?: *[({][^)}]*[)}])*) *:(?: |$)")
+DEFINED = re.compile(r"^(?P<in> *)(?:(?:abbrev|unfoldable|pub|data|record|ruleset) )*(?P<names>[\w'ℕ]+(?:-[\w'ℕ]+)*(?: [\w'ℕ]+(?:-[\w'ℕ]+)*)*)(?P<args>(?: *[({][^)}]*[)}])*) *:(?: |$)")
+TYPE = re.compile(r"^(?:pub )?(?:data|record) ([\w'ℕ]+(?:-[\w'ℕ]+)*)")
+GIVEN = re.compile(r" as ([\w'ℕ]+(?:-[\w'ℕ]+)*)")
 FOREIGN = re.compile(r"^\s*(?:ghost )?(?:pub )?use (?!Rattle\.(?:%s)\.(?:specs|proofs)\b)[^\n]*\{([^}]*)\}")
+# Names of variables.
+OTHERS = {"all-rows", "by-sums", "join-text", "on-numbers"}
 DOCS = ["README.md"] + sorted(glob.glob("docs/*.md"))
 
 
@@ -30,10 +34,10 @@ def files():
 
 
 def respelled(name):
-    parts = name.split("-")
     if name[0].isupper():
+        parts = re.split("[-_]", name)
         return "".join(p[:1].upper() + p[1:] for p in parts)
-    return "_".join(parts)
+    return name.replace("-", "_")
 
 
 def comment(line):
@@ -47,8 +51,12 @@ def defined(path):
             if comment(line) or re.search(r": *(?:goal|given|need)\.", line):
                 continue
             m = DEFINED.match(line)
-            if m and "-" in m["name"]:
-                yield m["name"]
+            names = m["names"].split() if m else TYPE.findall(line)
+            if re.match(r"\s*use ", line):
+                names = GIVEN.findall(line)
+            for name in names:
+                if "-" in name or name[0].isupper() and "_" in name:
+                    yield name
 
 
 def foreign(text, own):
@@ -78,7 +86,7 @@ def turn_docs(names):
 
 def main(write):
     own = crates()
-    names = {n for p in antt_files() for n in defined(p)}
+    names = {n for p in antt_files() for n in defined(p)} | OTHERS
     names = {n for n in names if respelled(n) != n}
     bad, changed, uses = [], {}, collections.Counter()
     for path in files():

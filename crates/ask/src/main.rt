@@ -5,11 +5,8 @@ use asking::arguments::*;
 use asking::replies::*;
 use asking::reply;
 use std::io::{Read, Write};
+use std::process::ExitCode;
 use std::{env, fs, io};
-
-// What was to be said is said; the status is 1.
-#[derive(Debug, Drop)]
-struct Failed;
 
 fn read_input(rt: &HostRuntime, name: &str) -> io::Result<Vec<u8>> {
     if name == "-" {
@@ -51,32 +48,33 @@ fn arguments(rt: &HostRuntime) -> io::Result<Vec<String>> {
     Ok(all)
 }
 
-fn print(rt: &HostRuntime, outcome: Result<Vec<u8>, Failure>) -> Result<(), Failed> {
+// An `Err` from `main` would be printed too, behind the line that says why.
+fn print(rt: &HostRuntime, outcome: Result<Vec<u8>, Failure>) -> ExitCode {
     match outcome {
         Ok(bytes) => match rt.stdout().write_all(bytes.as_slice()) {
-            Ok(()) => Ok(()),
+            Ok(()) => ExitCode::SUCCESS,
             Err(error) => {
                 let _ = eprintln!(rt; "ask: can't print: {error}");
-                Err(Failed)
+                ExitCode::FAILURE
             }
         },
         Err(Failure::Said(line)) => {
             let _ = eprintln!(rt; "{line}");
-            Err(Failed)
+            ExitCode::FAILURE
         }
         Err(Failure::OutOfMemory) => {
             let _ = eprintln!(rt; "ask: out of memory");
-            Err(Failed)
+            ExitCode::FAILURE
         }
     }
 }
 
-fn main(rt: HostRuntime) -> Result<(), Failed> {
+fn main(rt: HostRuntime) -> ExitCode {
     match arguments(&rt) {
         Ok(all) => print(&rt, run(&rt, all.as_slice())),
         Err(error) => {
             let _ = eprintln!(rt; "ask: can't read the arguments: {error}");
-            Err(Failed)
+            ExitCode::FAILURE
         }
     }
 }

@@ -3,7 +3,7 @@ use Rattle.std.proofs.Common.{◌≡◌, ℕ, ◌<◌, Bool, true, false, ◌⊎
 use mathlib.Core.Option.{Option, some, none}
 use Rattle.std.proofs.lemmas.Bool.{or_cases, or_left, or_right, true≢false}
 use Rattle.meaning.specs.Base.{and_then, when, Bytes, same_bytes, among}
-use Rattle.meaning.specs.Values.{Ty, t_num, same_type, Op, op_arith as on-numbers, op_compare, op_logic, Expr, e_num, e_word, e_null, e_col, e_op, e_not, e_none, e_if, Col, col_type, expect_type, op_type, type_of, names_in}
+use Rattle.meaning.specs.Values.{Ty, t_num, same_type, Op, op_arith as on_numbers, op_compare, op_logic, Expr, e_num, e_word, e_null, e_col, e_op, e_not, e_none, e_if, Col, col_type, expect_type, op_type, type_of, names_in}
 use Rattle.meaning.proofs.Names.{same_is}
 use Rattle.code.specs.Postfix.{col_index}
 use Rattle.code.proofs.ColIndex.{index_found}
@@ -30,7 +30,7 @@ want_right : (o : Option Ty) (t : Ty) (p : Option Ty) → Some (expect_type o t 
 want_right o t p h = let q = on_then o (λ u. when (same_type u t) p) h in from_when (same_type q.0 t) p q.1
 
 op_both : (o : Op) (s t : Option Ty) → Some (op_type o s t) → Some s × Some t
-op_both (on-numbers o) s t h = (want_left s t_num _ h, want_left t t_num _ (want_right s t_num (expect_type t t_num (some t_num)) h))
+op_both (on_numbers o) s t h = (want_left s t_num _ h, want_left t t_num _ (want_right s t_num (expect_type t t_num (some t_num)) h))
 op_both (op_compare o) s t h = (from_on s _ h, let q = on_then s (λ u. expect_type t u (some t_num)) h in want_left t q.0 (some t_num) q.1)
 op_both (op_logic o) s t h = (want_left s t_num _ h, want_left t t_num _ (want_right s t_num (expect_type t t_num (some t_num)) h))
 

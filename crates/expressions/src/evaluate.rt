@@ -66,7 +66,7 @@ fn execute_all(code: &[u64], row: &[u64], stack: &mut Stack)
 }
 
 // The value of an expression on a row of cells, by its code. The stack has a word for each instruction, so a text
-// of so many bytes takes at most `stack-words` of them.
+// of so many bytes takes at most `stack_words` of them.
 pub fn evaluate(code: &[u64], row: &[u64], stack: &mut Stack) -> Value
     requires { length code.now ≤ 2 * length stack.old.words.now }
     ensures length { length stack.new.words.now ≡ length stack.old.words.now }

@@ -11,23 +11,23 @@ use Rattle.values.specs.Types.{op_of}
 use Rattle.code.specs.Postfix.{Instr, i_num, i_word, i_null, i_col, i_none, postfix}
 use Rattle.language_expressions.specs.Machine.{operator, chain_level, State, wants, has, Outcome, goes_on, comes_to, fails, must, leaf, primary_turn, operand_turn, operator_turn, turn}
 use Rattle.language_expressions.specs.declared.machine.Level.{Level as Lv}
-use Rattle.language_expressions.specs.declared.machine.Level.TheVariants.{If as l-if, Or as l-or, And as l-and, Not as l-not, Sum as l-sum, Product as l-product, Primary as l-primary}
+use Rattle.language_expressions.specs.declared.machine.Level.TheVariants.{If as l_if, Or as l_or, And as l_and, Not as l_not, Sum as l_sum, Product as l_product, Primary as l_primary}
 use Rattle.language_expressions.specs.declared.machine.Mark.{Mark}
-use Rattle.language_expressions.specs.declared.machine.Mark.TheVariants.{Chain as m-chain, Applied as m-applied, Comparison as m-comparison, Compared as m-compared, Not as m-not, Paren as m-paren, NoneParen as m-none, Then as m-then, Else as m-else, End as m-end}
+use Rattle.language_expressions.specs.declared.machine.Mark.TheVariants.{Chain as m_chain, Applied as m_applied, Comparison as m_comparison, Compared as m_compared, Not as m_not, Paren as m_paren, NoneParen as m_none, Then as m_then, Else as m_else, End as m_end}
 use Rattle.language_expressions.proofs.Frames.{Frame, f_on, f_op, f_cmp, f_cmp2, f_not, f_rp, f_rpn, f_if1, f_if2, f_if3, St, want, have, Out, go, done, fail, must_out, or_fail, step_small, step_want, step_have, step}
 
 -- how a state looks there
 abbrev pub mark : Frame → Mark
-mark (f_on c) = m-chain c
-mark (f_op c o a) = m-applied c (operator o)
-mark f_cmp = m-comparison
-mark (f_cmp2 o a) = m-compared (operator o)
-mark f_not = m-not
-mark f_rp = m-paren
-mark f_rpn = m-none
-mark f_if1 = m-then
-mark (f_if2 a) = m-else
-mark (f_if3 a b) = m-end
+mark (f_on c) = m_chain c
+mark (f_op c o a) = m_applied c (operator o)
+mark f_cmp = m_comparison
+mark (f_cmp2 o a) = m_compared (operator o)
+mark f_not = m_not
+mark f_rp = m_paren
+mark f_rpn = m_none
+mark f_if1 = m_then
+mark (f_if2 a) = m_else
+mark (f_if3 a b) = m_end
 
 abbrev pub held1 : Frame → List (Instr Bytes)
 held1 (f_on c) = []
@@ -121,19 +121,19 @@ module _ (before : List (Instr Bytes)) where
   same_small : (l : List Bytes) (K : List Frame) → seen_out (step_small l K) ≡ primary_turn l (each mark K) (held K)
   same_small [] K = refl
   same_small (p ∷ l) K = seen_cond (same_bytes p (codes "(")) _ _ ∙ cond_same (same_bytes p (codes "(")) _ _ _ _
-      (λ e. on_reads l-if l _ _ _ (nil K))
+      (λ e. on_reads l_if l _ _ _ (nil K))
       (λ e. seen_cond (same_bytes p (codes "none")) _ _ ∙ cond_same (same_bytes p (codes "none")) _ _ _ _
-      (λ d. seen_cond (same_bytes (head_piece l) (codes "(")) _ _ ∙ cond_same (same_bytes (head_piece l) (codes "(")) _ _ _ _ (λ c. on_reads l-if (tail_pieces l) _ _ _ (nil K)) (λ c. same_type l K))
+      (λ d. seen_cond (same_bytes (head_piece l) (codes "(")) _ _ ∙ cond_same (same_bytes (head_piece l) (codes "(")) _ _ _ _ (λ c. on_reads l_if (tail_pieces l) _ _ _ (nil K)) (λ c. same_type l K))
       (λ d. same_leaf p l K))
 
   same_want : (w : Lv) (l : List Bytes) (K : List Frame) → seen_out (step_want w l K) ≡ operand_turn w l (each mark K) (held K)
-  same_want l-if l K = seen_cond (same_bytes (head_piece l) (codes "if")) _ _ ∙ cond_same (same_bytes (head_piece l) (codes "if")) _ _ _ _ (λ e. on_reads l-if (tail_pieces l) _ _ _ (nil K)) (λ e. refl)
-  same_want l-or l K = on_reads l-and l _ _ _ (nil K)
-  same_want l-and l K = on_reads l-not l _ _ _ (nil K)
-  same_want l-not l K = seen_cond (same_bytes (head_piece l) (codes "not")) _ _ ∙ cond_same (same_bytes (head_piece l) (codes "not")) _ _ _ _ (λ e. on_reads l-not (tail_pieces l) _ _ _ (nil K)) (λ e. on_reads l-sum l _ _ _ (nil K))
-  same_want l-sum l K = on_reads l-product l _ _ _ (nil K)
-  same_want l-product l K = on_reads l-primary l _ _ _ (nil K)
-  same_want l-primary l K = same_small l K
+  same_want l_if l K = seen_cond (same_bytes (head_piece l) (codes "if")) _ _ ∙ cond_same (same_bytes (head_piece l) (codes "if")) _ _ _ _ (λ e. on_reads l_if (tail_pieces l) _ _ _ (nil K)) (λ e. refl)
+  same_want l_or l K = on_reads l_and l _ _ _ (nil K)
+  same_want l_and l K = on_reads l_not l _ _ _ (nil K)
+  same_want l_not l K = seen_cond (same_bytes (head_piece l) (codes "not")) _ _ ∙ cond_same (same_bytes (head_piece l) (codes "not")) _ _ _ _ (λ e. on_reads l_not (tail_pieces l) _ _ _ (nil K)) (λ e. on_reads l_sum l _ _ _ (nil K))
+  same_want l_sum l K = on_reads l_product l _ _ _ (nil K)
+  same_want l_product l K = on_reads l_primary l _ _ _ (nil K)
+  same_want l_primary l K = same_small l K
 
   same_have : (K : List Frame) (e : Expr) (l : List Bytes) → seen_out (step_have K e l) ≡ operator_turn (each mark K) l (held K ++ postfix e)
   same_have [] e [] = refl
@@ -145,8 +145,8 @@ module _ (before : List (Instr Bytes)) where
   same_have (f_not ∷ K) e l = on_got l _ _ _ (simp (append-nil, append_assoc))
   same_have (f_rp ∷ K) e l = seen_must (codes ")") l _ (λ l1. goes_on (has l1 (each mark K) (held (f_rp ∷ K) ++ postfix e))) refl (λ l1. on_got l1 _ _ _ (simp append-nil))
   same_have (f_rpn ∷ K) e l = seen_must (codes ")") l _ (λ l1. goes_on (has l1 (each mark K) ((held (f_rpn ∷ K) ++ postfix e) ++ (i_none ∷ [])))) refl (λ l1. on_got l1 _ _ _ (simp (append-nil, append_assoc)))
-  same_have (f_if1 ∷ K) e l = seen_must (codes "then") l _ (λ l1. goes_on (wants l-if l1 (m-else ∷ each mark K) (held (f_if1 ∷ K) ++ postfix e))) refl (λ l1. on_reads l-if l1 _ _ _ (simp append-nil))
-  same_have (f_if2 a ∷ K) e l = seen_must (codes "else") l _ (λ l1. goes_on (wants l-if l1 (m-end ∷ each mark K) (held (f_if2 a ∷ K) ++ postfix e))) refl (λ l1. on_reads l-if l1 _ _ _ (simp append_assoc))
+  same_have (f_if1 ∷ K) e l = seen_must (codes "then") l _ (λ l1. goes_on (wants l_if l1 (m_else ∷ each mark K) (held (f_if1 ∷ K) ++ postfix e))) refl (λ l1. on_reads l_if l1 _ _ _ (simp append-nil))
+  same_have (f_if2 a ∷ K) e l = seen_must (codes "else") l _ (λ l1. goes_on (wants l_if l1 (m_end ∷ each mark K) (held (f_if2 a ∷ K) ++ postfix e))) refl (λ l1. on_reads l_if l1 _ _ _ (simp append_assoc))
   same_have (f_if3 a b ∷ K) e l = on_got l _ _ _ (simp append_assoc)
 
   pub same_turn : (s : St) → turn (seen s) ≡ seen_out (step s)

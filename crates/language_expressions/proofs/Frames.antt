@@ -9,18 +9,18 @@ use Rattle.language_expressions.proofs.Grammar.{Parser, atom, type_short, atom_s
 use Rattle.language_expressions.proofs.Free.{Any, Level, Compared, Chained, any_is, compared_is, primary_is, chained_is, level_1, level_2, level_3, level_4, level_5, level_6}
 use Rattle.language_expressions.specs.Machine.{chain_level, tighter}
 use Rattle.language_expressions.specs.declared.machine.Level.{Level as Lv}
-use Rattle.language_expressions.specs.declared.machine.Level.TheVariants.{If as l-if, Or as l-or, And as l-and, Not as l-not, Sum as l-sum, Product as l-product, Primary as l-primary}
+use Rattle.language_expressions.specs.declared.machine.Level.TheVariants.{If as l_if, Or as l_or, And as l_and, Not as l_not, Sum as l_sum, Product as l_product, Primary as l_primary}
 use Rattle.language_expressions.specs.declared.machine.Chain.{Chain}
 use Rattle.language_expressions.specs.declared.machine.Chain.TheVariants.{Ors, Ands, Sums, Products}
 
 abbrev pub reader : Lv → Parser
-reader l-if = Any
-reader l-or = Level 1
-reader l-and = Level 2
-reader l-not = Level 3
-reader l-sum = Level 4
-reader l-product = Level 5
-reader l-primary = Level 6
+reader l_if = Any
+reader l_or = Level 1
+reader l_and = Level 2
+reader l_not = Level 3
+reader l_sum = Level 4
+reader l_product = Level 5
+reader l_primary = Level 6
 
 -- what is left to do when a reader comes back, with the parts that it waits with
 pub data Frame : Type 0 where
@@ -78,18 +78,18 @@ or_fail (some g) k = k g.value_read g.rest
 abbrev pub step_small : List Bytes → List Frame → Out
 step_small [] K = fail
 step_small (p ∷ l) K =
-    cond (same_bytes p (codes "(")) (go (want l-if l (f_rp ∷ K)))
-    (cond (same_bytes p (codes "none")) (cond (same_bytes (head_piece l) (codes "(")) (go (want l-if (tail_pieces l) (f_rpn ∷ K))) (or_fail (read_type l) (λ t l1. go (have (e_null t) l1 K))))
+    cond (same_bytes p (codes "(")) (go (want l_if l (f_rp ∷ K)))
+    (cond (same_bytes p (codes "none")) (cond (same_bytes (head_piece l) (codes "(")) (go (want l_if (tail_pieces l) (f_rpn ∷ K))) (or_fail (read_type l) (λ t l1. go (have (e_null t) l1 K))))
     (or_fail (atom p l) (λ a l1. go (have a l1 K))))
 
 abbrev pub step_want : Lv → List Bytes → List Frame → Out
-step_want l-if l K = cond (same_bytes (head_piece l) (codes "if")) (go (want l-if (tail_pieces l) (f_if1 ∷ K))) (go (want l-or l K))
-step_want l-or l K = go (want l-and l (f_on Ors ∷ K))
-step_want l-and l K = go (want l-not l (f_on Ands ∷ K))
-step_want l-not l K = cond (same_bytes (head_piece l) (codes "not")) (go (want l-not (tail_pieces l) (f_not ∷ K))) (go (want l-sum l (f_cmp ∷ K)))
-step_want l-sum l K = go (want l-product l (f_on Sums ∷ K))
-step_want l-product l K = go (want l-primary l (f_on Products ∷ K))
-step_want l-primary l K = step_small l K
+step_want l_if l K = cond (same_bytes (head_piece l) (codes "if")) (go (want l_if (tail_pieces l) (f_if1 ∷ K))) (go (want l_or l K))
+step_want l_or l K = go (want l_and l (f_on Ors ∷ K))
+step_want l_and l K = go (want l_not l (f_on Ands ∷ K))
+step_want l_not l K = cond (same_bytes (head_piece l) (codes "not")) (go (want l_not (tail_pieces l) (f_not ∷ K))) (go (want l_sum l (f_cmp ∷ K)))
+step_want l_sum l K = go (want l_product l (f_on Sums ∷ K))
+step_want l_product l K = go (want l_primary l (f_on Products ∷ K))
+step_want l_primary l K = step_small l K
 
 abbrev pub the_end : Expr → List Bytes → Out
 the_end e [] = done e
@@ -99,20 +99,20 @@ abbrev pub step_have : List Frame → Expr → List Bytes → Out
 step_have [] e l = the_end e l
 step_have (f_on c ∷ K) e l = map_or (level_op (chain_level c) (head_piece l)) (go (have e l K)) (λ o. go (want (tighter c) (tail_pieces l) (f_op c o e ∷ K)))
 step_have (f_op c o a ∷ K) e l = go (have (e_op o a e) l (f_on c ∷ K))
-step_have (f_cmp ∷ K) e l = map_or (comparison_op (head_piece l)) (go (have e l K)) (λ o. go (want l-sum (tail_pieces l) (f_cmp2 o e ∷ K)))
+step_have (f_cmp ∷ K) e l = map_or (comparison_op (head_piece l)) (go (have e l K)) (λ o. go (want l_sum (tail_pieces l) (f_cmp2 o e ∷ K)))
 step_have (f_cmp2 o a ∷ K) e l = go (have (e_op o a e) l K)
 step_have (f_not ∷ K) e l = go (have (e_not e) l K)
 step_have (f_rp ∷ K) e l = must_out (codes ")") l (λ l1. go (have e l1 K))
 step_have (f_rpn ∷ K) e l = must_out (codes ")") l (λ l1. go (have (e_none e) l1 K))
-step_have (f_if1 ∷ K) e l = must_out (codes "then") l (λ l1. go (want l-if l1 (f_if2 e ∷ K)))
-step_have (f_if2 a ∷ K) e l = must_out (codes "else") l (λ l1. go (want l-if l1 (f_if3 a e ∷ K)))
+step_have (f_if1 ∷ K) e l = must_out (codes "then") l (λ l1. go (want l_if l1 (f_if2 e ∷ K)))
+step_have (f_if2 a ∷ K) e l = must_out (codes "else") l (λ l1. go (want l_if l1 (f_if3 a e ∷ K)))
 step_have (f_if3 a b ∷ K) e l = go (have (e_if a b e) l K)
 
 abbrev pub step : St → Out
 step (want w l K) = step_want w l K
 step (have e l K) = step_have K e l
 
--- the parts of a step, through 'comes-out'
+-- the parts of a step, through 'comes_out'
 out_cond : (b : Bool) (x y : Out) → comes_out (cond b x y) ≡ cond b (comes_out x) (comes_out y)
 out_cond true x y = refl
 out_cond false x y = refl
@@ -129,7 +129,7 @@ out_or : {A : Type 0} (r : Option (Parsed A)) (k : A → List Bytes → Out) →
 out_or none k = refl
 out_or (some g) k = refl
 
--- and through 'then-read'
+-- and through 'then_read'
 with_with : {A C D : Type 0} (r : Option (Parsed A)) (f : A → List Bytes → Option (Parsed C)) (k : C → List Bytes → Option D) → then_read (then_read r f) k ≡ then_read r (λ a l. then_read (f a l) k)
 with_with none f k = refl
 with_with (some g) f k = refl
@@ -151,25 +151,25 @@ with_same none k k' f = refl
 with_same (some g) k k' f = f g.value_read g.rest
 
 -- a step changes nothing of what a state comes to
-right_if : (l : List Bytes) (K : List Frame) → comes (want l-if l K) ≡ comes_out (step_want l-if l K)
+right_if : (l : List Bytes) (K : List Frame) → comes (want l_if l K) ≡ comes_out (step_want l_if l K)
 right_if l K = ap (λ r. then_read r k) (any_is l) ∙ (with_cond (same_bytes (head_piece l) (codes "if")) _ (Level 1 l) k ∙ (cond_same (same_bytes (head_piece l) (codes "if")) _ _ _ _
     (λ e. with_with (Any (tail_pieces l)) _ k ∙ with_same (Any (tail_pieces l)) _ _ (λ a l1. with_must_out (codes "then") l1 _ k ∙ must_same (codes "then") l1 _ _ (λ l2 h2. with_with (Any l2) _ k ∙ with_same (Any l2) _ _ (λ b l3. with_must_out (codes "else") l3 _ k ∙ must_same (codes "else") l3 _ _ (λ l4 h4. with_with (Any l4) _ k)))))
     (λ e. refl)
-    ∙ sym (out_cond (same_bytes (head_piece l) (codes "if")) (go (want l-if (tail_pieces l) (f_if1 ∷ K))) (go (want l-or l K)))))
+    ∙ sym (out_cond (same_bytes (head_piece l) (codes "if")) (go (want l_if (tail_pieces l) (f_if1 ∷ K))) (go (want l_or l K)))))
   where
     k : Expr → List Bytes → Option Expr
     k e l1 = resume K e l1
 
-right_not : (l : List Bytes) (K : List Frame) → comes (want l-not l K) ≡ comes_out (step_want l-not l K)
+right_not : (l : List Bytes) (K : List Frame) → comes (want l_not l K) ≡ comes_out (step_want l_not l K)
 right_not l K = ap (λ r. then_read r k) (level_3 l ∙ compared_is l) ∙ (with_cond (same_bytes (head_piece l) (codes "not")) _ _ k ∙ (cond_same (same_bytes (head_piece l) (codes "not")) _ _ _ _
     (λ e. with_with (Compared (tail_pieces l)) _ k ∙ ap (λ r. then_read r (λ a l1. resume K (e_not a) l1)) (sym (level_3 (tail_pieces l))))
     (λ e. with_with (Level 4 l) _ k ∙ with_same (Level 4 l) _ _ (λ a l1. with_opt (comparison_op (head_piece l1)) _ _ k ∙ opt_same (comparison_op (head_piece l1)) _ _ _ _ (λ d. refl) (λ o d. with_with (Level 4 (tail_pieces l1)) _ k)))
-    ∙ sym (out_cond (same_bytes (head_piece l) (codes "not")) (go (want l-not (tail_pieces l) (f_not ∷ K))) (go (want l-sum l (f_cmp ∷ K))))))
+    ∙ sym (out_cond (same_bytes (head_piece l) (codes "not")) (go (want l_not (tail_pieces l) (f_not ∷ K))) (go (want l_sum l (f_cmp ∷ K))))))
   where
     k : Expr → List Bytes → Option Expr
     k e l1 = resume K e l1
 
-right_small : (l : List Bytes) (K : List Frame) → comes (want l-primary l K) ≡ comes_out (step_small l K)
+right_small : (l : List Bytes) (K : List Frame) → comes (want l_primary l K) ≡ comes_out (step_small l K)
 right_small [] K = ap (λ r. then_read r (λ e l1. resume K e l1)) (level_6 [] ∙ primary_is [])
 right_small (p ∷ l) K = ap (λ r. then_read r k) (level_6 (p ∷ l) ∙ primary_is (p ∷ l)) ∙ (with_cond (same_bytes p (codes "(")) _ _ k ∙ (cond_same (same_bytes p (codes "(")) _ _ _ _
     (λ e. with_with (Any l) _ k ∙ with_same (Any l) _ _ (λ a l1. with_must_out (codes ")") l1 _ k))
@@ -186,13 +186,13 @@ right_small (p ∷ l) K = ap (λ r. then_read r k) (level_6 (p ∷ l) ∙ primar
     k e l1 = resume K e l1
 
 right_want : (w : Lv) (l : List Bytes) (K : List Frame) → comes (want w l K) ≡ comes_out (step_want w l K)
-right_want l-if l K = right_if l K
-right_want l-or l K = ap (λ r. then_read r (λ e l1. resume K e l1)) (level_1 l) ∙ with_with (Level 2 l) (Chained 1) (λ e l1. resume K e l1)
-right_want l-and l K = ap (λ r. then_read r (λ e l1. resume K e l1)) (level_2 l) ∙ with_with (Level 3 l) (Chained 2) (λ e l1. resume K e l1)
-right_want l-not l K = right_not l K
-right_want l-sum l K = ap (λ r. then_read r (λ e l1. resume K e l1)) (level_4 l) ∙ with_with (Level 5 l) (Chained 4) (λ e l1. resume K e l1)
-right_want l-product l K = ap (λ r. then_read r (λ e l1. resume K e l1)) (level_5 l) ∙ with_with (Level 6 l) (Chained 5) (λ e l1. resume K e l1)
-right_want l-primary l K = right_small l K
+right_want l_if l K = right_if l K
+right_want l_or l K = ap (λ r. then_read r (λ e l1. resume K e l1)) (level_1 l) ∙ with_with (Level 2 l) (Chained 1) (λ e l1. resume K e l1)
+right_want l_and l K = ap (λ r. then_read r (λ e l1. resume K e l1)) (level_2 l) ∙ with_with (Level 3 l) (Chained 2) (λ e l1. resume K e l1)
+right_want l_not l K = right_not l K
+right_want l_sum l K = ap (λ r. then_read r (λ e l1. resume K e l1)) (level_4 l) ∙ with_with (Level 5 l) (Chained 4) (λ e l1. resume K e l1)
+right_want l_product l K = ap (λ r. then_read r (λ e l1. resume K e l1)) (level_5 l) ∙ with_with (Level 6 l) (Chained 5) (λ e l1. resume K e l1)
+right_want l_primary l K = right_small l K
 
 next_is : (c : Chain) (l : List Bytes) → Level (chain_level c + 1) l ≡ reader (tighter c) l
 next_is Ors l = refl
@@ -219,13 +219,13 @@ right_have [] e [] = refl
 right_have [] e (p ∷ l) = refl
 right_have (f_on c ∷ K) e l = right_on c e l K
 right_have (f_op c o a ∷ K) e l = refl
-right_have (f_cmp ∷ K) e l = sym (out_opt (comparison_op (head_piece l)) (go (have e l K)) (λ o. go (want l-sum (tail_pieces l) (f_cmp2 o e ∷ K))))
+right_have (f_cmp ∷ K) e l = sym (out_opt (comparison_op (head_piece l)) (go (have e l K)) (λ o. go (want l_sum (tail_pieces l) (f_cmp2 o e ∷ K))))
 right_have (f_cmp2 o a ∷ K) e l = refl
 right_have (f_not ∷ K) e l = refl
 right_have (f_rp ∷ K) e l = sym (out_must (codes ")") l (λ l1. go (have e l1 K)))
 right_have (f_rpn ∷ K) e l = sym (out_must (codes ")") l (λ l1. go (have (e_none e) l1 K)))
-right_have (f_if1 ∷ K) e l = sym (out_must (codes "then") l (λ l1. go (want l-if l1 (f_if2 e ∷ K))))
-right_have (f_if2 a ∷ K) e l = sym (out_must (codes "else") l (λ l1. go (want l-if l1 (f_if3 a e ∷ K))))
+right_have (f_if1 ∷ K) e l = sym (out_must (codes "then") l (λ l1. go (want l_if l1 (f_if2 e ∷ K))))
+right_have (f_if2 a ∷ K) e l = sym (out_must (codes "else") l (λ l1. go (want l_if l1 (f_if3 a e ∷ K))))
 right_have (f_if3 a b ∷ K) e l = refl
 
 pub step_right : (s : St) → comes s ≡ comes_out (step s)
@@ -234,13 +234,13 @@ step_right (have e l K) = right_have K e l
 
 -- each step consumes a piece or pops a frame: so many steps there are at most for an operand of a level
 abbrev pub weight : Lv → ℕ
-weight l-if = 12
-weight l-or = 11
-weight l-and = 9
-weight l-not = 7
-weight l-sum = 5
-weight l-product = 3
-weight l-primary = 1
+weight l_if = 12
+weight l_or = 11
+weight l_and = 9
+weight l_not = 7
+weight l_sum = 5
+weight l_product = 3
+weight l_primary = 1
 
 abbrev pub heavy : Frame → ℕ
 heavy (f_on c) = 1
@@ -275,7 +275,7 @@ falls_or : {A : Type 0} (r : Option (Parsed A)) (k : A → List Bytes → Out) (
 falls_or none k m n h f = tt
 falls_or (some g) k m n h f = f g.value_read g.rest h
 
-falls_small : (l : List Bytes) (K : List Frame) → Falls (left (want l-primary l K)) (step_small l K)
+falls_small : (l : List Bytes) (K : List Frame) → Falls (left (want l_primary l K)) (step_small l K)
 falls_small [] K = tt
 falls_small (p ∷ l) K = cond_ind F (same_bytes p (codes "(")) _ _ (λ e. omega arith)
     (λ e. cond_ind F (same_bytes p (codes "none")) _ _
@@ -283,16 +283,16 @@ falls_small (p ∷ l) K = cond_ind F (same_bytes p (codes "(")) _ _ (λ e. omega
     (λ d. falls_or (atom p l) _ (suc (length l)) _ (atom_short p l) (λ a l1 b. omega arith)))
   where
     F : Out → Type 0
-    F o = Falls (left (want l-primary (p ∷ l) K)) o
+    F o = Falls (left (want l_primary (p ∷ l) K)) o
 
 falls_want : (w : Lv) (l : List Bytes) (K : List Frame) → Falls (left (want w l K)) (step_want w l K)
-falls_want l-if l K = cond_ind (Falls (left (want l-if l K))) (same_bytes (head_piece l) (codes "if")) _ _ (λ e. let b : length (tail_pieces l) < length l = after_less l _ _ e in omega arith) (λ e. omega arith)
-falls_want l-or l K = omega arith
-falls_want l-and l K = omega arith
-falls_want l-not l K = cond_ind (Falls (left (want l-not l K))) (same_bytes (head_piece l) (codes "not")) _ _ (λ e. let b : length (tail_pieces l) < length l = after_less l _ _ e in omega arith) (λ e. omega arith)
-falls_want l-sum l K = omega arith
-falls_want l-product l K = omega arith
-falls_want l-primary l K = falls_small l K
+falls_want l_if l K = cond_ind (Falls (left (want l_if l K))) (same_bytes (head_piece l) (codes "if")) _ _ (λ e. let b : length (tail_pieces l) < length l = after_less l _ _ e in omega arith) (λ e. omega arith)
+falls_want l_or l K = omega arith
+falls_want l_and l K = omega arith
+falls_want l_not l K = cond_ind (Falls (left (want l_not l K))) (same_bytes (head_piece l) (codes "not")) _ _ (λ e. let b : length (tail_pieces l) < length l = after_less l _ _ e in omega arith) (λ e. omega arith)
+falls_want l_sum l K = omega arith
+falls_want l_product l K = omega arith
+falls_want l_primary l K = falls_small l K
 
 tight : (c : Chain) → weight (tighter c) ≤ 9
 tight Ors = omega arith

@@ -15,7 +15,7 @@ use Rattle.language_expressions.specs.Machine.{outcome, State, wants, has, Outco
 use Rattle.language_expressions.specs.Marks.{marks_in}
 use Rattle.language_expressions.specs.Views.{marks_on, named_code, whole_expression}
 use Rattle.language_expressions.specs.declared.machine.Level.{Level}
-use Rattle.language_expressions.specs.declared.machine.Level.TheVariants.{If as l-if}
+use Rattle.language_expressions.specs.declared.machine.Level.TheVariants.{If as l_if}
 use Rattle.language_expressions.specs.declared.machine.Mark.{Mark}
 use Rattle.language_expressions.specs.declared.machine.Turn.{Turn}
 use Rattle.language_expressions.specs.declared.machine.Turn.TheVariants.{Operand, Operator}
@@ -52,7 +52,7 @@ ahead_few r = by r.unclosed
     by true = omega arith
     by false = omega (arith, cuts_few (drop r.at r.line.now), length-drop r.at r.line.now)
 
-pub start : (r : Reader) (text : List ℕ) (k : Code) (M : List Mark) → M ≡ [] → Holds (named_code text k) (16 * length r.line.now + 44) (whole_expression (ahead r)) (goes_on (wants l-if (ahead r) M (named_code text k)))
+pub start : (r : Reader) (text : List ℕ) (k : Code) (M : List Mark) → M ≡ [] → Holds (named_code text k) (16 * length r.line.now + 44) (whole_expression (ahead r)) (goes_on (wants l_if (ahead r) M (named_code text k)))
 unfolding whole_expression
 start r text k M f = rw f (let h = holds_start (named_code text k) (ahead r) in (h.0, omega (arith, h.1, ahead_few r), omega (arith, h.2, ahead_few r)))
 

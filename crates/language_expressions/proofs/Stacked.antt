@@ -3,7 +3,7 @@ use Rattle.std.proofs.Common.{◌≡◌, ℕ, zero, suc, ◌+◌, ◌-◌, ◌*�
 use Rattle.language_expressions.specs.Marks.{mark_in, marks_in, operator_in}
 use Rattle.values.specs.declared.types.Operator.{Operator}
 use Rattle.language_expressions.specs.declared.machine.Mark.{Mark}
-use Rattle.language_expressions.specs.declared.machine.Mark.TheVariants.{Applied as m-applied, Compared as m-compared}
+use Rattle.language_expressions.specs.declared.machine.Mark.TheVariants.{Applied as m_applied, Compared as m_compared}
 use Rattle.language_expressions.specs.declared.machine.Chain.TheVariants.{Ors, Ands, Sums, Products}
 
 pub stacked_other : (ws : List ℕ) (i v d : ℕ) → d ≤ i → marks_in (set ws i v) d ≡ marks_in ws d
@@ -23,17 +23,17 @@ stacked_none ws d h = rw h
 pub stacked_took : (ws : List ℕ) (d : ℕ) (m : Mark) → ¬ (d ≡ 0) → m ≡ mark_in (get_or ws (d - 1) 0) → marks_in ws d ≡ m ∷ marks_in ws (d - 1)
 stacked_took ws d m h e = stacked_pop ws d h ∙ ap (λ x. x ∷ marks_in ws (d - 1)) (sym e)
 
-pub packed_or : (n : ℕ) (o : Operator) (m : Mark) → operator_in n ≡ o → m ≡ m-applied Ors o → mark_in (16 * n + 4) ≡ m
+pub packed_or : (n : ℕ) (o : Operator) (m : Mark) → operator_in n ≡ o → m ≡ m_applied Ors o → mark_in (16 * n + 4) ≡ m
 packed_or n o m e q = let a : (16 * n + 4) % 16 ≡ 4 = omega arith in let b : (16 * n + 4) / 16 ≡ n = omega arith in rw (a, b, e) (sym q)
 
-pub packed_and : (n : ℕ) (o : Operator) (m : Mark) → operator_in n ≡ o → m ≡ m-applied Ands o → mark_in (16 * n + 5) ≡ m
+pub packed_and : (n : ℕ) (o : Operator) (m : Mark) → operator_in n ≡ o → m ≡ m_applied Ands o → mark_in (16 * n + 5) ≡ m
 packed_and n o m e q = let a : (16 * n + 5) % 16 ≡ 5 = omega arith in let b : (16 * n + 5) / 16 ≡ n = omega arith in rw (a, b, e) (sym q)
 
-pub packed_sum : (n : ℕ) (o : Operator) (m : Mark) → operator_in n ≡ o → m ≡ m-applied Sums o → mark_in (16 * n + 6) ≡ m
+pub packed_sum : (n : ℕ) (o : Operator) (m : Mark) → operator_in n ≡ o → m ≡ m_applied Sums o → mark_in (16 * n + 6) ≡ m
 packed_sum n o m e q = let a : (16 * n + 6) % 16 ≡ 6 = omega arith in let b : (16 * n + 6) / 16 ≡ n = omega arith in rw (a, b, e) (sym q)
 
-pub packed_product : (n : ℕ) (o : Operator) (m : Mark) → operator_in n ≡ o → m ≡ m-applied Products o → mark_in (16 * n + 7) ≡ m
+pub packed_product : (n : ℕ) (o : Operator) (m : Mark) → operator_in n ≡ o → m ≡ m_applied Products o → mark_in (16 * n + 7) ≡ m
 packed_product n o m e q = let a : (16 * n + 7) % 16 ≡ 7 = omega arith in let b : (16 * n + 7) / 16 ≡ n = omega arith in rw (a, b, e) (sym q)
 
-pub packed_compared : (n : ℕ) (o : Operator) (m : Mark) → operator_in n ≡ o → m ≡ m-compared o → mark_in (16 * n + 9) ≡ m
+pub packed_compared : (n : ℕ) (o : Operator) (m : Mark) → operator_in n ≡ o → m ≡ m_compared o → mark_in (16 * n + 9) ≡ m
 packed_compared n o m e q = let a : (16 * n + 9) % 16 ≡ 9 = omega arith in let b : (16 * n + 9) / 16 ≡ n = omega arith in rw (a, b, e) (sym q)

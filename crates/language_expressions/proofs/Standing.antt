@@ -13,26 +13,26 @@ use Rattle.values.specs.declared.types.Operator.{Operator}
 use Rattle.code.specs.Postfix.{Instr, i_null, i_op, i_not, i_none, i_if, postfix}
 use Rattle.language_expressions.specs.Machine.{operator, chain_operator, comparison, chain_level, tighter, State, wants, has, Outcome, goes_on, comes_to, fails, must, leaf, primary_turn, operand_turn, operator_turn, turn}
 use Rattle.language_expressions.specs.declared.machine.Level.{Level as Lv}
-use Rattle.language_expressions.specs.declared.machine.Level.TheVariants.{If as l-if, Or as l-or, And as l-and, Not as l-not, Sum as l-sum, Product as l-product, Primary as l-primary}
+use Rattle.language_expressions.specs.declared.machine.Level.TheVariants.{If as l_if, Or as l_or, And as l_and, Not as l_not, Sum as l_sum, Product as l_product, Primary as l_primary}
 use Rattle.language_expressions.specs.declared.machine.Chain.{Chain}
 use Rattle.language_expressions.specs.declared.machine.Chain.TheVariants.{Ors, Ands, Sums, Products}
 use Rattle.language_expressions.specs.declared.machine.Mark.{Mark}
-use Rattle.language_expressions.specs.declared.machine.Mark.TheVariants.{Chain as m-chain, Applied as m-applied, Comparison as m-comparison, Compared as m-compared, Not as m-not, Paren as m-paren, NoneParen as m-none, Then as m-then, Else as m-else, End as m-end}
+use Rattle.language_expressions.specs.declared.machine.Mark.TheVariants.{Chain as m_chain, Applied as m_applied, Comparison as m_comparison, Compared as m_compared, Not as m_not, Paren as m_paren, NoneParen as m_none, Then as m_then, Else as m_else, End as m_end}
 use Rattle.language_expressions.proofs.Frames.{St, want, Out, go, done, fail, comes, comes_out, step, step_right, weight}
 use Rattle.language_expressions.proofs.Coded.{seen, seen_out, same_turn}
 
 -- how many turns there may be
 abbrev pub mark_weight : Mark → ℕ
-mark_weight (m-chain c) = 1
-mark_weight (m-applied c o) = 2
-mark_weight m-comparison = 1
-mark_weight (m-compared o) = 1
-mark_weight m-not = 1
-mark_weight m-paren = 1
-mark_weight m-none = 1
-mark_weight m-then = 1
-mark_weight m-else = 1
-mark_weight m-end = 1
+mark_weight (m_chain c) = 1
+mark_weight (m_applied c o) = 2
+mark_weight m_comparison = 1
+mark_weight (m_compared o) = 1
+mark_weight m_not = 1
+mark_weight m_paren = 1
+mark_weight m_none = 1
+mark_weight m_then = 1
+mark_weight m_else = 1
+mark_weight m_end = 1
 
 abbrev pub marks_weight : List Mark → ℕ
 marks_weight [] = 0
@@ -51,9 +51,9 @@ pub record Stands (before : List (Instr Bytes)) (t : State) (to : Option Expr) :
   pub is : t ≡ seen before state
   pub comes_to : comes state ≡ to
 
-pub stands_start : (before : List (Instr Bytes)) (line : List Bytes) → Stands before (wants l-if line [] before) (read_to_end (expression (fuel line) line))
+pub stands_start : (before : List (Instr Bytes)) (line : List Bytes) → Stands before (wants l_if line [] before) (read_to_end (expression (fuel line) line))
 unfolding Any
-stands_start before line = record { state = want l-if line []; is = refl; comes_to = refl }
+stands_start before line = record { state = want l_if line []; is = refl; comes_to = refl }
 
 never : {A : Type 0} → ◌≡◌ {A = ℕ} 0 1 → A
 never e = absurd (omega arith)
@@ -98,7 +98,7 @@ s_must p l f n k o h = cond_ind (Spends n k) (same_bytes (head_piece l) p) (f (t
 more : (c : List (Instr Bytes)) (i : (Instr Bytes)) → length (c ++ (i ∷ [])) ≡ length c + 1
 more c i = length-append c (i ∷ [])
 
-s_small : (l : List Bytes) (M : List Mark) (c : List (Instr Bytes)) → Spends (turns_left (wants l-primary l M c)) (length c + turns_left (wants l-primary l M c)) (primary_turn l M c)
+s_small : (l : List Bytes) (M : List Mark) (c : List (Instr Bytes)) → Spends (turns_left (wants l_primary l M c)) (length c + turns_left (wants l_primary l M c)) (primary_turn l M c)
 s_small [] M c = tt
 s_small (p ∷ l) M c = cond_ind S (same_bytes p (codes "(")) _ _ (λ e. (omega arith, omega arith))
     (λ e. cond_ind S (same_bytes p (codes "none")) _ _
@@ -108,16 +108,16 @@ s_small (p ∷ l) M c = cond_ind S (same_bytes p (codes "(")) _ _ (λ e. (omega 
     (λ d. opt_ind S (leaf p) _ _ (λ a. tt) (λ i a. (omega arith, omega (arith, more c i)))))
   where
     S : Outcome → Type 0
-    S x = Spends (turns_left (wants l-primary (p ∷ l) M c)) (length c + turns_left (wants l-primary (p ∷ l) M c)) x
+    S x = Spends (turns_left (wants l_primary (p ∷ l) M c)) (length c + turns_left (wants l_primary (p ∷ l) M c)) x
 
 s_want : (w : Lv) (l : List Bytes) (M : List Mark) (c : List (Instr Bytes)) → Spends (turns_left (wants w l M c)) (length c + turns_left (wants w l M c)) (operand_turn w l M c)
-s_want l-if l M c = cond_ind (Spends (turns_left (wants l-if l M c)) (length c + turns_left (wants l-if l M c))) (same_bytes (head_piece l) (codes "if")) _ _ (λ e. let b : length (tail_pieces l) < length l = after_less l _ _ e in (omega arith, omega arith)) (λ e. (omega arith, omega arith))
-s_want l-or l M c = (omega arith, omega arith)
-s_want l-and l M c = (omega arith, omega arith)
-s_want l-not l M c = cond_ind (Spends (turns_left (wants l-not l M c)) (length c + turns_left (wants l-not l M c))) (same_bytes (head_piece l) (codes "not")) _ _ (λ e. let b : length (tail_pieces l) < length l = after_less l _ _ e in (omega arith, omega arith)) (λ e. (omega arith, omega arith))
-s_want l-sum l M c = (omega arith, omega arith)
-s_want l-product l M c = (omega arith, omega arith)
-s_want l-primary l M c = s_small l M c
+s_want l_if l M c = cond_ind (Spends (turns_left (wants l_if l M c)) (length c + turns_left (wants l_if l M c))) (same_bytes (head_piece l) (codes "if")) _ _ (λ e. let b : length (tail_pieces l) < length l = after_less l _ _ e in (omega arith, omega arith)) (λ e. (omega arith, omega arith))
+s_want l_or l M c = (omega arith, omega arith)
+s_want l_and l M c = (omega arith, omega arith)
+s_want l_not l M c = cond_ind (Spends (turns_left (wants l_not l M c)) (length c + turns_left (wants l_not l M c))) (same_bytes (head_piece l) (codes "not")) _ _ (λ e. let b : length (tail_pieces l) < length l = after_less l _ _ e in (omega arith, omega arith)) (λ e. (omega arith, omega arith))
+s_want l_sum l M c = (omega arith, omega arith)
+s_want l_product l M c = (omega arith, omega arith)
+s_want l_primary l M c = s_small l M c
 
 -- where an operator stands, there is a piece
 some_of : {A C : Type 0} (o : Option A) (f : A → C) (y : C) (P : Type 0) → ((x : A) → o ≡ some x → P) → and_then o (λ x. some (f x)) ≡ some y → P
@@ -139,16 +139,16 @@ tight Products = omega arith
 s_got : (M : List Mark) (l : List Bytes) (c : List (Instr Bytes)) → Spends (turns_left (has l M c)) (length c + turns_left (has l M c)) (operator_turn M l c)
 s_got [] [] c = tt
 s_got [] (p ∷ l) c = tt
-s_got (m-chain h ∷ M) l c = opt_ind (Spends (turns_left (has l (m-chain h ∷ M) c)) (length c + turns_left (has l (m-chain h ∷ M) c))) (chain_operator h (head_piece l)) _ _ (λ d. (omega arith, omega arith)) (λ o d. let b : length (tail_pieces l) < length l = at_less h l o d in (omega (arith, tight h), omega (arith, tight h)))
-s_got (m-applied h o ∷ M) l c = (omega arith, omega (arith, more c (i_op (op_of o))))
-s_got (m-comparison ∷ M) l c = opt_ind (Spends (turns_left (has l (m-comparison ∷ M) c)) (length c + turns_left (has l (m-comparison ∷ M) c))) (comparison (head_piece l)) _ _ (λ d. (omega arith, omega arith)) (λ o d. let b : length (tail_pieces l) < length l = compared_less l o d in (omega arith, omega arith))
-s_got (m-compared o ∷ M) l c = (omega arith, omega (arith, more c (i_op (op_of o))))
-s_got (m-not ∷ M) l c = (omega arith, omega (arith, more c i_not))
-s_got (m-paren ∷ M) l c = s_must (codes ")") l (λ l1. goes_on (has l1 M c)) _ _ refl (λ l1 b. (omega arith, omega arith))
-s_got (m-none ∷ M) l c = s_must (codes ")") l (λ l1. goes_on (has l1 M (c ++ (i_none ∷ [])))) _ _ refl (λ l1 b. (omega arith, omega (arith, more c i_none)))
-s_got (m-then ∷ M) l c = s_must (codes "then") l (λ l1. goes_on (wants l-if l1 (m-else ∷ M) c)) _ _ refl (λ l1 b. (omega arith, omega arith))
-s_got (m-else ∷ M) l c = s_must (codes "else") l (λ l1. goes_on (wants l-if l1 (m-end ∷ M) c)) _ _ refl (λ l1 b. (omega arith, omega arith))
-s_got (m-end ∷ M) l c = (omega arith, omega (arith, more c i_if))
+s_got (m_chain h ∷ M) l c = opt_ind (Spends (turns_left (has l (m_chain h ∷ M) c)) (length c + turns_left (has l (m_chain h ∷ M) c))) (chain_operator h (head_piece l)) _ _ (λ d. (omega arith, omega arith)) (λ o d. let b : length (tail_pieces l) < length l = at_less h l o d in (omega (arith, tight h), omega (arith, tight h)))
+s_got (m_applied h o ∷ M) l c = (omega arith, omega (arith, more c (i_op (op_of o))))
+s_got (m_comparison ∷ M) l c = opt_ind (Spends (turns_left (has l (m_comparison ∷ M) c)) (length c + turns_left (has l (m_comparison ∷ M) c))) (comparison (head_piece l)) _ _ (λ d. (omega arith, omega arith)) (λ o d. let b : length (tail_pieces l) < length l = compared_less l o d in (omega arith, omega arith))
+s_got (m_compared o ∷ M) l c = (omega arith, omega (arith, more c (i_op (op_of o))))
+s_got (m_not ∷ M) l c = (omega arith, omega (arith, more c i_not))
+s_got (m_paren ∷ M) l c = s_must (codes ")") l (λ l1. goes_on (has l1 M c)) _ _ refl (λ l1 b. (omega arith, omega arith))
+s_got (m_none ∷ M) l c = s_must (codes ")") l (λ l1. goes_on (has l1 M (c ++ (i_none ∷ [])))) _ _ refl (λ l1 b. (omega arith, omega (arith, more c i_none)))
+s_got (m_then ∷ M) l c = s_must (codes "then") l (λ l1. goes_on (wants l_if l1 (m_else ∷ M) c)) _ _ refl (λ l1 b. (omega arith, omega arith))
+s_got (m_else ∷ M) l c = s_must (codes "else") l (λ l1. goes_on (wants l_if l1 (m_end ∷ M) c)) _ _ refl (λ l1 b. (omega arith, omega arith))
+s_got (m_end ∷ M) l c = (omega arith, omega (arith, more c i_if))
 
 spends : (t : State) → Spends (turns_left t) (length (code_so_far t) + turns_left t) (turn t)
 spends (wants w l M c) = s_want w l M c
@@ -165,16 +165,16 @@ deep [] = omega arith
 deep (m ∷ M) = omega (arith, deep M, one m)
   where
     one : (k : Mark) → 1 ≤ mark_weight k
-    one (m-chain c) = omega arith
-    one (m-applied c o) = omega arith
-    one m-comparison = omega arith
-    one (m-compared o) = omega arith
-    one m-not = omega arith
-    one m-paren = omega arith
-    one m-none = omega arith
-    one m-then = omega arith
-    one m-else = omega arith
-    one m-end = omega arith
+    one (m_chain c) = omega arith
+    one (m_applied c o) = omega arith
+    one m_comparison = omega arith
+    one (m_compared o) = omega arith
+    one m_not = omega arith
+    one m_paren = omega arith
+    one m_none = omega arith
+    one m_then = omega arith
+    one m_else = omega arith
+    one m_end = omega arith
 
 -- for a loop: what comes next stands, and there is room
 abbrev pub Holds : List (Instr Bytes) → ℕ → Option Expr → Outcome → Type 0
@@ -203,5 +203,5 @@ rest_falls t = by (turn t) refl
     by (comes_to c) e = omega arith
     by fails e = omega arith
 
-pub holds_start : (before : List (Instr Bytes)) (line : List Bytes) → Holds before (16 * length line + 12) (read_to_end (expression (fuel line) line)) (goes_on (wants l-if line [] before))
+pub holds_start : (before : List (Instr Bytes)) (line : List Bytes) → Holds before (16 * length line + 12) (read_to_end (expression (fuel line) line)) (goes_on (wants l_if line [] before))
 holds_start before line = (stands_start before line, omega arith, omega arith)

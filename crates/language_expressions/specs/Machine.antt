@@ -12,13 +12,13 @@ use Rattle.values.specs.declared.types.Comparison.TheVariants.{Equal, NotEqual, 
 use Rattle.values.specs.declared.types.Logic.TheVariants.{And, Or}
 use Rattle.code.specs.Postfix.{Instr, i_num, i_word, i_null, i_col, i_op, i_not, i_none, i_if}
 use Rattle.language_expressions.specs.declared.machine.Level.{Level}
-use Rattle.language_expressions.specs.declared.machine.Level.TheVariants.{If as l-if, Or as l-or, And as l-and, Not as l-not, Sum as l-sum, Product as l-product, Primary as l-primary}
+use Rattle.language_expressions.specs.declared.machine.Level.TheVariants.{If as l_if, Or as l_or, And as l_and, Not as l_not, Sum as l_sum, Product as l_product, Primary as l_primary}
 use Rattle.language_expressions.specs.declared.machine.Chain.{Chain}
 use Rattle.language_expressions.specs.declared.machine.Chain.TheVariants.{Ors, Ands, Sums, Products}
 use Rattle.language_expressions.specs.declared.machine.Mark.{Mark}
-use Rattle.language_expressions.specs.declared.machine.Mark.TheVariants.{Chain as m-chain, Applied as m-applied, Comparison as m-comparison, Compared as m-compared, Not as m-not, Paren as m-paren, NoneParen as m-none, Then as m-then, Else as m-else, End as m-end}
+use Rattle.language_expressions.specs.declared.machine.Mark.TheVariants.{Chain as m_chain, Applied as m_applied, Comparison as m_comparison, Compared as m_compared, Not as m_not, Paren as m_paren, NoneParen as m_none, Then as m_then, Else as m_else, End as m_end}
 use Rattle.language_expressions.specs.declared.machine.Turn.{Turn}
-use Rattle.language_expressions.specs.declared.machine.Turn.TheVariants.{Operand, Operator as Operator-next, Done, Bad}
+use Rattle.language_expressions.specs.declared.machine.Turn.TheVariants.{Operand, Operator as OperatorNext, Done, Bad}
 
 -- the number of a chain's level in the definitions
 abbrev pub chain_level : Chain → ℕ
@@ -29,10 +29,10 @@ chain_level Products = 5
 
 -- the operands of a chain
 abbrev pub tighter : Chain → Level
-tighter Ors = l-and
-tighter Ands = l-not
-tighter Sums = l-product
-tighter Products = l-primary
+tighter Ors = l_and
+tighter Ands = l_not
+tighter Sums = l_product
+tighter Products = l_primary
 
 -- the code's operator for one of the definitions
 abbrev pub operator : Op → Operator
@@ -78,7 +78,7 @@ leaf p = map_or (as_number p) (map_or (as_word p) (cond (is_name p) (some (i_col
 -- behind the word none: an expression in parentheses, or a type
 abbrev pub none_turn : List Bytes → List Mark → List (Instr Bytes) → Outcome
 none_turn l M c =
-    cond (same_bytes (head_piece l) (codes "(")) (goes_on (wants l-if (tail_pieces l) (m-none ∷ M) c))
+    cond (same_bytes (head_piece l) (codes "(")) (goes_on (wants l_if (tail_pieces l) (m_none ∷ M) c))
     (cond (same_bytes (head_piece l) (codes "num")) (goes_on (has (tail_pieces l) M (c ++ (i_null t_num ∷ []))))
     (cond (same_bytes (head_piece l) (codes "word")) (goes_on (has (tail_pieces l) M (c ++ (i_null t_word ∷ []))))
     fails))
@@ -86,21 +86,21 @@ none_turn l M c =
 -- a turn at which a primary is wanted
 abbrev pub primary_turn : List Bytes → List Mark → List (Instr Bytes) → Outcome
 primary_turn l M c =
-    cond (same_bytes (head_piece l) (codes "(")) (goes_on (wants l-if (tail_pieces l) (m-paren ∷ M) c))
+    cond (same_bytes (head_piece l) (codes "(")) (goes_on (wants l_if (tail_pieces l) (m_paren ∷ M) c))
     (cond (same_bytes (head_piece l) (codes "none")) (none_turn (tail_pieces l) M c)
     (map_or (leaf (head_piece l)) fails (λ i. goes_on (has (tail_pieces l) M (c ++ (i ∷ []))))))
 
 -- a turn at which an operand of a level is wanted
 abbrev pub operand_turn : Level → List Bytes → List Mark → List (Instr Bytes) → Outcome
-operand_turn l-if l M c =
-    cond (same_bytes (head_piece l) (codes "if")) (goes_on (wants l-if (tail_pieces l) (m-then ∷ M) c)) (goes_on (wants l-or l M c))
-operand_turn l-or l M c = goes_on (wants l-and l (m-chain Ors ∷ M) c)
-operand_turn l-and l M c = goes_on (wants l-not l (m-chain Ands ∷ M) c)
-operand_turn l-not l M c =
-    cond (same_bytes (head_piece l) (codes "not")) (goes_on (wants l-not (tail_pieces l) (m-not ∷ M) c)) (goes_on (wants l-sum l (m-comparison ∷ M) c))
-operand_turn l-sum l M c = goes_on (wants l-product l (m-chain Sums ∷ M) c)
-operand_turn l-product l M c = goes_on (wants l-primary l (m-chain Products ∷ M) c)
-operand_turn l-primary l M c = primary_turn l M c
+operand_turn l_if l M c =
+    cond (same_bytes (head_piece l) (codes "if")) (goes_on (wants l_if (tail_pieces l) (m_then ∷ M) c)) (goes_on (wants l_or l M c))
+operand_turn l_or l M c = goes_on (wants l_and l (m_chain Ors ∷ M) c)
+operand_turn l_and l M c = goes_on (wants l_not l (m_chain Ands ∷ M) c)
+operand_turn l_not l M c =
+    cond (same_bytes (head_piece l) (codes "not")) (goes_on (wants l_not (tail_pieces l) (m_not ∷ M) c)) (goes_on (wants l_sum l (m_comparison ∷ M) c))
+operand_turn l_sum l M c = goes_on (wants l_product l (m_chain Sums ∷ M) c)
+operand_turn l_product l M c = goes_on (wants l_primary l (m_chain Products ∷ M) c)
+operand_turn l_primary l M c = primary_turn l M c
 
 -- the end of an expression, which is that of the line
 abbrev pub end_turn : List Bytes → List (Instr Bytes) → Outcome
@@ -110,18 +110,18 @@ end_turn (p ∷ l) c = fails
 -- a turn at which an operand was read: by the mark that was set last
 abbrev pub operator_turn : List Mark → List Bytes → List (Instr Bytes) → Outcome
 operator_turn [] l c = end_turn l c
-operator_turn (m-chain h ∷ M) l c =
-    map_or (chain_operator h (head_piece l)) (goes_on (has l M c)) (λ o. goes_on (wants (tighter h) (tail_pieces l) (m-applied h o ∷ M) c))
-operator_turn (m-applied h o ∷ M) l c = goes_on (has l (m-chain h ∷ M) (c ++ (i_op (op_of o) ∷ [])))
-operator_turn (m-comparison ∷ M) l c =
-    map_or (comparison (head_piece l)) (goes_on (has l M c)) (λ o. goes_on (wants l-sum (tail_pieces l) (m-compared o ∷ M) c))
-operator_turn (m-compared o ∷ M) l c = goes_on (has l M (c ++ (i_op (op_of o) ∷ [])))
-operator_turn (m-not ∷ M) l c = goes_on (has l M (c ++ (i_not ∷ [])))
-operator_turn (m-paren ∷ M) l c = must (codes ")") l (λ l1. goes_on (has l1 M c))
-operator_turn (m-none ∷ M) l c = must (codes ")") l (λ l1. goes_on (has l1 M (c ++ (i_none ∷ []))))
-operator_turn (m-then ∷ M) l c = must (codes "then") l (λ l1. goes_on (wants l-if l1 (m-else ∷ M) c))
-operator_turn (m-else ∷ M) l c = must (codes "else") l (λ l1. goes_on (wants l-if l1 (m-end ∷ M) c))
-operator_turn (m-end ∷ M) l c = goes_on (has l M (c ++ (i_if ∷ [])))
+operator_turn (m_chain h ∷ M) l c =
+    map_or (chain_operator h (head_piece l)) (goes_on (has l M c)) (λ o. goes_on (wants (tighter h) (tail_pieces l) (m_applied h o ∷ M) c))
+operator_turn (m_applied h o ∷ M) l c = goes_on (has l (m_chain h ∷ M) (c ++ (i_op (op_of o) ∷ [])))
+operator_turn (m_comparison ∷ M) l c =
+    map_or (comparison (head_piece l)) (goes_on (has l M c)) (λ o. goes_on (wants l_sum (tail_pieces l) (m_compared o ∷ M) c))
+operator_turn (m_compared o ∷ M) l c = goes_on (has l M (c ++ (i_op (op_of o) ∷ [])))
+operator_turn (m_not ∷ M) l c = goes_on (has l M (c ++ (i_not ∷ [])))
+operator_turn (m_paren ∷ M) l c = must (codes ")") l (λ l1. goes_on (has l1 M c))
+operator_turn (m_none ∷ M) l c = must (codes ")") l (λ l1. goes_on (has l1 M (c ++ (i_none ∷ []))))
+operator_turn (m_then ∷ M) l c = must (codes "then") l (λ l1. goes_on (wants l_if l1 (m_else ∷ M) c))
+operator_turn (m_else ∷ M) l c = must (codes "else") l (λ l1. goes_on (wants l_if l1 (m_end ∷ M) c))
+operator_turn (m_end ∷ M) l c = goes_on (has l M (c ++ (i_if ∷ [])))
 
 -- a turn from any state
 abbrev pub turn : State → Outcome
@@ -131,7 +131,7 @@ turn (has l M c) = operator_turn M l c
 -- what the code's turn says, with what the machine then holds
 abbrev pub outcome : Turn → List Bytes → List Mark → List (Instr Bytes) → Outcome
 outcome (Operand w) l M c = goes_on (wants w l M c)
-outcome Operator-next l M c = goes_on (has l M c)
+outcome OperatorNext l M c = goes_on (has l M c)
 outcome Done l M c = comes_to c
 outcome (Bad e) l M c = fails
 

@@ -8,7 +8,7 @@ use Rattle.meaning.specs.Text.{Parsed, parsed, then_read, expect, at_end, head_p
 use Rattle.language_pieces.specs.Pieces.{none_left}
 use Rattle.language_expressions.proofs.Bind.{Short, cond_ind, cond_same, bind_same, must_same, bind_short, must_short}
 use Rattle.language_expressions.proofs.Grammar.{type_short}
-use Rattle.language_statements.specs.Lists.{Goes_on, KeyGoesOn, AggGoesOn}
+use Rattle.language_statements.specs.Lists.{GoesOn, KeyGoesOn, AggGoesOn}
 use Rattle.language_statements.specs.Items.{read_key, read_named_agg, read_column, read_aggregate, all_names, keys_to_colon, all_keys, all_aggs, all_columns, aggs_left}
 
 -- lists whose items are read one by one up to the end of the line
@@ -190,7 +190,7 @@ named_short l = bind_short (read_name l) _ (length l) (length l) (name_short l) 
 pub less_by : {A : Type 0} (n : ℕ) (r : Option (Parsed A)) (x : A) (l1 : List Bytes) → Short n r → r ≡ parsed x l1 → length l1 < n
 less_by n r x l1 h e = subst (λ o. Short n o) e h
 
-pub list_one : {A : Type 0} (take1 : List Bytes → Option (Parsed A)) (all1 : List Bytes → Option (List A)) (l l1 : List Bytes) (x : A) → NextBy take1 all1 → ((m : List Bytes) → Short (length m) (take1 m)) → none_left l ≡ false → take1 l ≡ parsed x l1 → Goes_on x all1 l l1
+pub list_one : {A : Type 0} (take1 : List Bytes → Option (Parsed A)) (all1 : List Bytes → Option (List A)) (l l1 : List Bytes) (x : A) → NextBy take1 all1 → ((m : List Bytes) → Short (length m) (take1 m)) → none_left l ≡ false → take1 l ≡ parsed x l1 → GoesOn x all1 l l1
 list_one take1 all1 l l1 x h s e f = record { is = all_one take1 all1 l l1 x h e f; fewer = less_by (length l) (take1 l) x l1 (s l) f }
 
 -- a list that is wrong has no end that is right

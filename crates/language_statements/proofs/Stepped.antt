@@ -4,7 +4,7 @@ use mathlib.Core.Option.{Option, some, none}
 use borrow.Author.Tests.{clash}
 use Rattle.meaning.specs.Base.{and_then, Bytes, same_bytes}
 use Rattle.meaning.specs.Steps.{Step, s_join}
-use Rattle.meaning.specs.Text.{Parsed, parsed, then_read, expect, at_end, read_to_end, read_name, read_number, join_line as join-text, step_line, table_line, read_columns}
+use Rattle.meaning.specs.Text.{Parsed, parsed, then_read, expect, at_end, read_to_end, read_name, read_number, join_line as join_text, step_line, table_line, read_columns}
 use Rattle.language_pieces.specs.Pieces.{none_left}
 use Rattle.language_expressions.specs.Views.{whole_expression}
 use Rattle.language_expressions.proofs.Bind.{must_same}
@@ -13,7 +13,7 @@ use Rattle.language_statements.specs.Statements.{verb_named, verb_line, read_pai
 use Rattle.language_pieces.specs.declared.faults.Fault.{Fault}
 use Rattle.language_statements.specs.declared.views.Pair.{Pair}
 use Rattle.language_statements.specs.declared.views.Verb.{Verb}
-use Rattle.language_statements.specs.declared.views.Verb.TheVariants.{Keep as v-keep, Make as v-make, Pick as v-pick, Join as v-join, Left as v-left, Group as v-group, Order as v-order, Take as v-take, Skip as v-skip, Unite as v-unite, Distinct as v-distinct}
+use Rattle.language_statements.specs.declared.views.Verb.TheVariants.{Keep as v_keep, Make as v_make, Pick as v_pick, Join as v_join, Left as v_left, Group as v_group, Order as v_order, Take as v_take, Skip as v_skip, Unite as v_unite, Distinct as v_distinct}
 use Rattle.language_statements.specs.declared.views.Step.{Step as StepView}
 
 pub alone_is : {A : Type 0} (r : Option (Parsed A)) (x : A) (l : List Bytes) → r ≡ parsed x l → none_left l ≡ true → read_to_end r ≡ some x
@@ -71,7 +71,7 @@ pub no_pair : (r : Result Pair Fault) (o : Option Compared) → is_err r ≡ tru
 no_pair (Ok p) o e h = absurd (clash e)
 no_pair (Err f) o e h = h
 
-join_same : (stay : Bool) (l : List Bytes) → join-text stay l ≡ join_line stay l
+join_same : (stay : Bool) (l : List Bytes) → join_text stay l ≡ join_line stay l
 unfolding read_pair lone_name
 join_same stay l = with_same (read_name l) _ _ (λ t l1. must_same (codes "on") l1 _ _ (λ l2 h. sym (some_with (read_name l2) _ (λ p. some (s_join t p.own p.other stay)) ∙ with_same (read_name l2) _ _ (λ x l3. some_must (codes "=") l3 _ (λ p. some (s_join t p.own p.other stay)) ∙ must_same (codes "=") l3 _ _ (λ l4 h4. some_no (read_name l4) (λ y. record { own = x; other = y }) (λ p. s_join t p.own p.other stay))))))
 
@@ -82,17 +82,17 @@ chosen false v l x y vs e f = f
 pub step_is : (p : Bytes) (l : List Bytes) → step_line p l ≡ and_then (verb_named p) (λ u. verb_line u l)
 unfolding whole_expression all_names keys_to_colon all_keys all_aggs lone_name lone_number
 step_is p l =
-    chosen (same_bytes p (codes "keep")) v-keep l _ _ _ refl
-    (chosen (same_bytes p (codes "make")) v-make l _ _ _ refl
-    (chosen (same_bytes p (codes "pick")) v-pick l _ _ _ refl
-    (chosen (same_bytes p (codes "join")) v-join l _ _ _ (join_same false l)
-    (chosen (same_bytes p (codes "left")) v-left l _ _ _ (must_same (codes "join") l _ _ (λ m h. join_same true m))
-    (chosen (same_bytes p (codes "group")) v-group l _ _ _ refl
-    (chosen (same_bytes p (codes "order")) v-order l _ _ _ refl
-    (chosen (same_bytes p (codes "take")) v-take l _ _ _ refl
-    (chosen (same_bytes p (codes "skip")) v-skip l _ _ _ refl
-    (chosen (same_bytes p (codes "unite")) v-unite l _ _ _ refl
-    (chosen (same_bytes p (codes "distinct")) v-distinct l _ _ _ refl refl))))))))))
+    chosen (same_bytes p (codes "keep")) v_keep l _ _ _ refl
+    (chosen (same_bytes p (codes "make")) v_make l _ _ _ refl
+    (chosen (same_bytes p (codes "pick")) v_pick l _ _ _ refl
+    (chosen (same_bytes p (codes "join")) v_join l _ _ _ (join_same false l)
+    (chosen (same_bytes p (codes "left")) v_left l _ _ _ (must_same (codes "join") l _ _ (λ m h. join_same true m))
+    (chosen (same_bytes p (codes "group")) v_group l _ _ _ refl
+    (chosen (same_bytes p (codes "order")) v_order l _ _ _ refl
+    (chosen (same_bytes p (codes "take")) v_take l _ _ _ refl
+    (chosen (same_bytes p (codes "skip")) v_skip l _ _ _ refl
+    (chosen (same_bytes p (codes "unite")) v_unite l _ _ _ refl
+    (chosen (same_bytes p (codes "distinct")) v_distinct l _ _ _ refl refl))))))))))
 
 pub step_none : (p : Bytes) (l : List Bytes) → none ≡ verb_named p → step_line p l ≡ none
 step_none p l e = step_is p l ∙ ap (λ o. and_then o (λ u. verb_line u l)) (sym e)
@@ -103,7 +103,7 @@ step_some p l m v e f = step_is p l ∙ (ap (λ o. and_then o (λ u. verb_line u
 pub as_read : {Expr : Type 0} (r : Result StepView Expr) (o o' : Option Step) (t t' : List ℕ) → o' ≡ o → t ≡ t' → StepRead r o t → StepRead r o' t'
 as_read r o o' t t' e f h = subst (λ x. StepRead r o' x) f (subst (λ x. StepRead r x t) (sym e) h)
 
-pub left_is : (l m : List Bytes) → behind_piece (codes "join") l ≡ some m → verb_line v-left l ≡ join_line true m
+pub left_is : (l m : List Bytes) → behind_piece (codes "join") l ≡ some m → verb_line v_left l ≡ join_line true m
 left_is [] m e = let z : ◌≡◌ {A = ℕ} 0 1 = cc in absurd (omega arith)
 left_is (x ∷ l) m e = by (same_bytes (codes "join") x) e
   where

@@ -9,7 +9,7 @@ use Rattle.language_statements.specs.Items.{keys_to_colon, aggs_left, named_agg_
 use Rattle.language_statements.specs.declared.views.NamedAggregate.{NamedAggregate}
 
 -- the first item of a list of pieces is x, and the others are what is then left of it
-pub record Goes_on {A : Type 0} (x : A) (all : List Bytes → Option (List A)) (before after : List Bytes) : Type 0 where
+pub record GoesOn {A : Type 0} (x : A) (all : List Bytes → Option (List A)) (before after : List Bytes) : Type 0 where
   pub is : all before ≡ and_then (all after) (λ xs. some (x ∷ xs))
   pub fewer : length after < length before
 
@@ -21,7 +21,7 @@ Ends all before = is_some (all before) ≡ true → all before ≡ some []
 abbrev pub ItemRead : {A V E : Type 0} → Result (Given V) E → (V → A) → (List Bytes → Option (List A)) → List Bytes → List Bytes → Type 0
 ItemRead (Err f) meant all before after = all before ≡ none
 ItemRead (Ok None) meant all before after = all before ≡ some []
-ItemRead (Ok (Some v)) meant all before after = Goes_on (meant v) all before after
+ItemRead (Ok (Some v)) meant all before after = GoesOn (meant v) all before after
 
 -- the first name before a colon is x, and the others are what is then left
 pub record KeyGoesOn (x : Bytes) (before after : List Bytes) : Type 0 where

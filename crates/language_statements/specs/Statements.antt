@@ -11,7 +11,7 @@ use Rattle.language_expressions.specs.Views.{whole_expression}
 use Rattle.language_statements.specs.Items.{all_names, keys_to_colon, all_keys, all_aggs, all_columns, aggs_left}
 use Rattle.language_statements.specs.declared.views.Pair.{Pair}
 use Rattle.language_statements.specs.declared.views.Verb.{Verb}
-use Rattle.language_statements.specs.declared.views.Verb.TheVariants.{Keep as v-keep, Make as v-make, Pick as v-pick, Join as v-join, Left as v-left, Group as v-group, Order as v-order, Take as v-take, Skip as v-skip, Unite as v-unite, Distinct as v-distinct}
+use Rattle.language_statements.specs.declared.views.Verb.TheVariants.{Keep as v_keep, Make as v_make, Pick as v_pick, Join as v_join, Left as v_left, Group as v_group, Order as v_order, Take as v_take, Skip as v_skip, Unite as v_unite, Distinct as v_distinct}
 use Rattle.language_statements.specs.declared.views.Step.{Step as StepView}
 use Rattle.language_statements.specs.declared.views.Step.TheVariants.{Keep, Make, Pick, Join, Group, Order, Take, Skip, Unite, Distinct}
 use Rattle.language_statements.specs.declared.views.Table.{Table}
@@ -19,17 +19,17 @@ use Rattle.language_statements.specs.declared.views.Table.{Table}
 -- the verb that a piece is
 abbrev pub verb_named : Bytes → Option Verb
 verb_named p =
-    cond (same_bytes p (codes "keep")) (some v-keep)
-    (cond (same_bytes p (codes "make")) (some v-make)
-    (cond (same_bytes p (codes "pick")) (some v-pick)
-    (cond (same_bytes p (codes "join")) (some v-join)
-    (cond (same_bytes p (codes "left")) (some v-left)
-    (cond (same_bytes p (codes "group")) (some v-group)
-    (cond (same_bytes p (codes "order")) (some v-order)
-    (cond (same_bytes p (codes "take")) (some v-take)
-    (cond (same_bytes p (codes "skip")) (some v-skip)
-    (cond (same_bytes p (codes "unite")) (some v-unite)
-    (cond (same_bytes p (codes "distinct")) (some v-distinct) none))))))))))
+    cond (same_bytes p (codes "keep")) (some v_keep)
+    (cond (same_bytes p (codes "make")) (some v_make)
+    (cond (same_bytes p (codes "pick")) (some v_pick)
+    (cond (same_bytes p (codes "join")) (some v_join)
+    (cond (same_bytes p (codes "left")) (some v_left)
+    (cond (same_bytes p (codes "group")) (some v_group)
+    (cond (same_bytes p (codes "order")) (some v_order)
+    (cond (same_bytes p (codes "take")) (some v_take)
+    (cond (same_bytes p (codes "skip")) (some v_skip)
+    (cond (same_bytes p (codes "unite")) (some v_unite)
+    (cond (same_bytes p (codes "distinct")) (some v_distinct) none))))))))))
 
 -- a name, and nothing behind it
 unfoldable pub lone_name : List Bytes → Option Bytes
@@ -66,17 +66,17 @@ group_line l = then_read (keys_to_colon l) (λ ks l1. and_then (all_aggs l1) (λ
 
 -- the step that a verb begins
 abbrev pub verb_line : Verb → List Bytes → Option Step
-verb_line v-keep l = and_then (whole_expression l) (λ e. some (s_keep e))
-verb_line v-make l = make_line l
-verb_line v-pick l = and_then (all_names l) (λ xs. some (s_pick xs))
-verb_line v-join l = join_line false l
-verb_line v-left l = expect (codes "join") l (λ l1. join_line true l1)
-verb_line v-group l = group_line l
-verb_line v-order l = and_then (all_keys l) (λ ks. some (s_order ks))
-verb_line v-take l = and_then (lone_number l) (λ n. some (s_take n))
-verb_line v-skip l = and_then (lone_number l) (λ n. some (s_skip n))
-verb_line v-unite l = and_then (lone_name l) (λ t. some (s_unite t))
-verb_line v-distinct l = at_end s_distinct l
+verb_line v_keep l = and_then (whole_expression l) (λ e. some (s_keep e))
+verb_line v_make l = make_line l
+verb_line v_pick l = and_then (all_names l) (λ xs. some (s_pick xs))
+verb_line v_join l = join_line false l
+verb_line v_left l = expect (codes "join") l (λ l1. join_line true l1)
+verb_line v_group l = group_line l
+verb_line v_order l = and_then (all_keys l) (λ ks. some (s_order ks))
+verb_line v_take l = and_then (lone_number l) (λ n. some (s_take n))
+verb_line v_skip l = and_then (lone_number l) (λ n. some (s_skip n))
+verb_line v_unite l = and_then (lone_name l) (λ t. some (s_unite t))
+verb_line v_distinct l = at_end s_distinct l
 
 -- the step that a view stands for, if its lists and its expression are right
 abbrev pub step_of : StepView → Option Step

@@ -4,7 +4,7 @@ ghost use Rattle.meaning.specs.Base.{is_some};
 ghost use Rattle.meaning.specs.Text.{parsed};
 ghost use Rattle.language_pieces.specs.Views.{ahead};
 ghost use Rattle.language_statements.specs.Items.{all_names, all_keys, all_columns, keys_to_colon, aggs_left, key_of, column_of, named_agg_of};
-ghost use Rattle.language_statements.specs.Lists.{ItemRead, Ends, Goes_on, KeyRead, KeyGoesOn, AggRead, AggGoesOn};
+ghost use Rattle.language_statements.specs.Lists.{ItemRead, Ends, GoesOn, KeyRead, KeyGoesOn, AggRead, AggGoesOn};
 ghost use Rattle.std.specs.Iterator.{at_most};
 
 use crate::items::*;
@@ -30,7 +30,7 @@ impl<'a> Names<'a> {
 impl<'a> Iterator for Names<'a> {
     type Item = &'a [u8];
 
-    ghost next_gives = { λ s r t. elim r [ None ↦ Ends all_names (ahead s.reader) | Some v ↦ Goes_on v.now all_names (ahead s.reader) (ahead t.reader) ] };
+    ghost next_gives = { λ s r t. elim r [ None ↦ Ends all_names (ahead s.reader) | Some v ↦ GoesOn v.now all_names (ahead s.reader) (ahead t.reader) ] };
 
     ghost remaining = { λ s. at_most (length (ahead s.reader)) };
 
@@ -61,7 +61,7 @@ impl<'a> SortKeys<'a> {
 impl<'a> Iterator for SortKeys<'a> {
     type Item = SortKey<'a>;
 
-    ghost next_gives = { λ s r t. elim r [ None ↦ Ends all_keys (ahead s.reader) | Some v ↦ Goes_on (key_of v) all_keys (ahead s.reader) (ahead t.reader) ] };
+    ghost next_gives = { λ s r t. elim r [ None ↦ Ends all_keys (ahead s.reader) | Some v ↦ GoesOn (key_of v) all_keys (ahead s.reader) (ahead t.reader) ] };
 
     ghost remaining = { λ s. at_most (length (ahead s.reader)) };
 
@@ -92,7 +92,7 @@ impl<'a> Columns<'a> {
 impl<'a> Iterator for Columns<'a> {
     type Item = Column<'a>;
 
-    ghost next_gives = { λ s r t. elim r [ None ↦ Ends all_columns (ahead s.reader) | Some v ↦ Goes_on (column_of v) all_columns (ahead s.reader) (ahead t.reader) ] };
+    ghost next_gives = { λ s r t. elim r [ None ↦ Ends all_columns (ahead s.reader) | Some v ↦ GoesOn (column_of v) all_columns (ahead s.reader) (ahead t.reader) ] };
 
     ghost remaining = { λ s. at_most (length (ahead s.reader)) };
 

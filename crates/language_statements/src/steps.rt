@@ -3,7 +3,7 @@ ghost use Rattle.std.proofs.Math.Option.{some, none};
 ghost use Rattle.meaning.specs.Text.{head_piece, tail_pieces, step_line, table_line};
 ghost use Rattle.language_pieces.specs.Views.{ahead};
 ghost use Rattle.language_expressions.specs.Machine.{given};
-ghost use Rattle.language_statements.specs.declared.views.Verb.TheVariants.{Distinct as Distinct-verb};
+ghost use Rattle.language_statements.specs.declared.views.Verb.TheVariants.{Distinct as v_distinct};
 ghost use Rattle.language_statements.specs.Items.{keys_to_colon};
 ghost use Rattle.language_statements.specs.Statements.{verb_named, verb_line, make_line, lone_name, lone_number, join_line, read_pair, pair_of, group_line, behind_read, StepRead, table_of};
 
@@ -114,7 +114,7 @@ fn read_group<'a>(reader: Reader<'a>) -> Result<Step<'a>, Fault>
 }
 
 fn read_distinct<'a>(reader: Reader<'a>) -> Result<Step<'a>, Fault>
-    ensures { StepRead result (verb_line Distinct-verb (ahead reader.entry)) reader.entry.line.now }
+    ensures { StepRead result (verb_line v_distinct (ahead reader.entry)) reader.entry.line.now }
 {
     if reader.is_over() {
         Ok(Step::Distinct)

@@ -55,7 +55,7 @@ stored_length us [] = refl
 stored_length us (s ∷ ss) =
     elim (among s.col.name us) as (λ b. length (cond b (s ∷ project_stored us ss) (project_stored us ss)) ≡ length (cond b (s.col ∷ project_cols us (each (λ s. s.col) ss)) (project_cols us (each (λ s. s.col) ss)))) [ true ↦ ap suc (stored_length us ss) | false ↦ stored_length us ss ]
 
--- the pages of the columns that are read, against what pages-read has for the place
+-- the pages of the columns that are read, against what pages_read has for the place
 pub pages_bound :
     (us : List Bytes) (d : Decl) → all_different (col_names (decl_cols d)) ≡ true
     → length (project_stored us d.cols) * pages_for d.rows ≤ length us * pages_for d.rows

@@ -1,5 +1,5 @@
--- What is used is there, and named once: so pages-read counts just the columns that are read.
-use Rattle.std.proofs.Common.{◌≡◌, ℕ, ◌≤◌, Bool, true, false, cond, not, ◌&&◌, List, [], ◌∷◌, ◌++◌, length, sym, refl, ap, ◌∙◌, subst, ⊎_elim, arith as by-sums}
+-- What is used is there, and named once: so pages_read counts just the columns that are read.
+use Rattle.std.proofs.Common.{◌≡◌, ℕ, ◌≤◌, Bool, true, false, cond, not, ◌&&◌, List, [], ◌∷◌, ◌++◌, length, sym, refl, ap, ◌∙◌, subst, ⊎_elim, arith as by_sums}
 use mathlib.Core.Option.{Option, some, none}
 use Rattle.std.proofs.lemmas.Bool.{and_parts, and_from, or_cases, or_left, not_from_false, not-true, false≢true}
 use Rattle.meaning.specs.Base.{map_or, and_then, when, is_some, Bytes, same_bytes, among, all_different, filter}
@@ -33,7 +33,7 @@ pub in_one : (y : Bytes) (zs : List Bytes) → In y zs → Within (y ∷ []) zs
 in_one y zs h x k = ⊎_elim (λ e. subst (λ w. In w zs) (sym (same_is x y e)) h) (λ l. absurd (false≢true l)) (or_cases (same_bytes x y) false k)
 
 pub col_there : (cs : List Col) (x : Bytes) (t : Ty) → col_type cs x ≡ some t → In x (col_names cs)
-col_there [] x t e = absurd (let z : ◌≡◌ {A = ℕ} 0 1 = cc in omega by-sums)
+col_there [] x t e = absurd (let z : ◌≡◌ {A = ℕ} 0 1 = cc in omega by_sums)
 col_there (c ∷ cs) x t e =
     (elim (same_bytes c.name x) as (λ b. same_bytes c.name x ≡ b → cond b (some c.ty) (col_type cs x) ≡ some t → In x (col_names (c ∷ cs))) [ true ↦ λ f g. or_left (same_bytes x c.name) (among x (col_names cs)) (same_sym x c.name ∙ f) | false ↦ λ f g. in_later x c.name (col_names cs) (col_there cs x t g) ]) refl
     e
@@ -192,4 +192,4 @@ project_exact us cs o n f =
     let a : length (intersect (col_names cs) us) ≤ length us = intersect_length (col_names cs) us n in
     let b : length (intersect us (intersect (col_names cs) us)) ≤ length (intersect (col_names cs) us) = intersect_length us (intersect (col_names cs) us) o in
     let c : intersect us (intersect (col_names cs) us) ≡ us = intersect_all us (intersect (col_names cs) us) (λ x k. in_filter (λ y. among y us) (col_names cs) x (f x k) k) in
-    omega (by-sums, names_length (project_cols us cs), ap length (project_names us cs), ap length c)
+    omega (by_sums, names_length (project_cols us cs), ap length (project_names us cs), ap length c)
