@@ -6,7 +6,27 @@ use asking::replies::*;
 use asking::reply;
 use std::io::{Read, Write};
 use std::process::ExitCode;
-use std::{env, fs, io};
+use std::{env, fmt, fs, io};
+
+// Why the program ends with status 1.
+#[derive(Drop)]
+enum Ending {
+    Arguments(io::Error),
+    Misused(Misused),
+    Failed(Failure),
+    Printing(io::Error),
+}
+
+impl fmt::Display for Ending {
+    fn fmt<W: fmt::Write>(&self, f: &mut fmt::Formatter<W>) -> fmt::Result {
+        match self {
+            Ending::Arguments(error) => write!(f, "ask: can't read the arguments: {error}"),
+            Ending::Misused(misused) => write!(f, "{misused}"),
+            Ending::Failed(failure) => write!(f, "{failure}"),
+            Ending::Printing(error) => write!(f, "ask: can't print: {error}"),
+        }
+    }
+}
 
 fn read_input(rt: &HostRuntime, name: &str) -> io::Result<Vec<u8>> {
     if name == "-" {
@@ -19,27 +39,22 @@ fn read_input(rt: &HostRuntime, name: &str) -> io::Result<Vec<u8>> {
 }
 
 fn read_or_say(rt: &HostRuntime, name: &str) -> Result<Vec<u8>, Failure> {
-    match read_input(rt, name) {
-        Ok(bytes) => Ok(bytes),
-        Err(error) => {
-            let reason = error.to_string(rt.alloc())?;
-            Err(Failure::Said(cannot_read(rt.alloc(), name, reason.as_str())?))
-        }
-    }
-}
-
-fn answer(rt: &HostRuntime, question: &str, pages: &str) -> Result<Vec<u8>, Failure> {
-    let text = read_or_say(rt, question)?;
-    let bytes = read_or_say(rt, pages)?;
-    reply(rt.alloc(), text.as_slice(), pages, bytes.as_slice())
-}
-
-fn run(rt: &HostRuntime, arguments: &[String]) -> Result<Vec<u8>, Failure> {
     let heap = rt.alloc();
-    match Command::from_arguments(arguments) {
-        Command::Help => Ok(HELP.as_bytes().to_vec(heap)?),
-        Command::Answer { question, pages } => answer(rt, question, pages),
-        Command::Misused => Err(Failure::Said(String::from_str(heap, USAGE)?)),
+    read_input(rt, name).try_map_err(|error| -> Result<Failure, Failure> {
+        let reason = error.to_string(heap)?;
+        Ok(Failure::Said(cannot_read(heap, name, reason.as_str())?))
+    })
+}
+
+// What is printed for a command.
+fn answer(rt: &HostRuntime, command: Command<'_>) -> Result<Vec<u8>, Failure> {
+    match command {
+        Command::Help => Ok(HELP.as_bytes().to_vec(rt.alloc())?),
+        Command::Answer { question, pages } => {
+            let text = read_or_say(rt, question)?;
+            let bytes = read_or_say(rt, pages)?;
+            reply(rt.alloc(), text.as_slice(), pages, bytes.as_slice())
+        }
     }
 }
 
@@ -48,32 +63,21 @@ fn arguments(rt: &HostRuntime) -> io::Result<Vec<String>> {
     Ok(all)
 }
 
-// An `Err` from `main` would be printed too, behind the line that says why.
-fn print(rt: &HostRuntime, outcome: Result<Vec<u8>, Failure>) -> ExitCode {
-    match outcome {
-        Ok(bytes) => match rt.stdout().write_all(bytes.as_slice()) {
-            Ok(()) => ExitCode::SUCCESS,
-            Err(error) => {
-                let _ = eprintln!(rt; "ask: can't print: {error}");
-                ExitCode::FAILURE
-            }
-        },
-        Err(Failure::Said(line)) => {
-            let _ = eprintln!(rt; "{line}");
-            ExitCode::FAILURE
-        }
-        Err(Failure::OutOfMemory) => {
-            let _ = eprintln!(rt; "ask: out of memory");
-            ExitCode::FAILURE
-        }
-    }
+fn run(rt: &HostRuntime) -> Result<(), Ending> {
+    let arguments = arguments(rt).map_err(Ending::Arguments)?;
+    let command = Command::try_from(arguments.as_slice()).map_err(Ending::Misused)?;
+    let bytes = answer(rt, command).map_err(Ending::Failed)?;
+    rt.stdout()
+        .write_all(bytes.as_slice())
+        .map_err(Ending::Printing)
 }
 
+// An `Err` from `main` would be printed too, behind the line that says why.
 fn main(rt: HostRuntime) -> ExitCode {
-    match arguments(&rt) {
-        Ok(all) => print(&rt, run(&rt, all.as_slice())),
-        Err(error) => {
-            let _ = eprintln!(rt; "ask: can't read the arguments: {error}");
+    match run(&rt) {
+        Ok(()) => ExitCode::SUCCESS,
+        Err(ending) => {
+            let _ = eprintln!(rt; "{ending}");
             ExitCode::FAILURE
         }
     }

@@ -1,1 +1,3 @@
+pub mod Arguments
 pub mod Listing
+pub mod Replies

@@ -1,4 +1,5 @@
 // An answer's rows as text: a line for each, values parted by commas.
+// Bytes and no Display, since a word's bytes need not be UTF-8.
 ghost use Rattle.std.specs.Prelude.{◌≡◌, ◌++◌, map, IfOk, codes, OnOk};
 ghost use Rattle.asking.specs.Listing.{behind_comma, line, listing, meant_row, shown, trimmed, word_bytes};
 ghost use Rattle.meaning.specs.Values.{word};
@@ -10,14 +11,13 @@ use reference_values::values::*;
 use std::alloc::{AllocError, Global};
 
 // Without the zero bytes at the end.
-fn trimmed(bytes: &[u8]) -> &[u8]
+fn trimmed(mut bytes: &[u8]) -> &[u8]
     ensures { result.now ≡ trimmed bytes.now }
 {
-    let mut end = bytes.len();
-    while end > 0 && bytes[end - 1] == 0 {
-        end -= 1;
+    while let [front @ .., 0] = bytes {
+        bytes = front;
     }
-    &bytes[..end]
+    bytes
 }
 
 // A word's seven bytes between quotes, without trailing zero bytes.
@@ -31,9 +31,10 @@ fn push_word(out: &mut Vec<u8>, number: u64) -> Result<(), AllocError>
     Ok(())
 }
 
-fn push_value(heap: Global, out: &mut Vec<u8>, value: Value) -> Result<(), AllocError>
+fn push_value(out: &mut Vec<u8>, value: Value) -> Result<(), AllocError>
     ensures { OnOk result (out.new.items ≡ out.old.items ++ shown (meant value)) }
 {
+    let heap = *out.allocator();
     match value {
         Value::Null => Ok(()),
         Value::Number(n) => out.extend_from_slice(n.to_string(heap)?.as_bytes()),
@@ -42,22 +43,22 @@ fn push_value(heap: Global, out: &mut Vec<u8>, value: Value) -> Result<(), Alloc
 }
 
 // Values with a comma before each.
-fn push_more(heap: Global, out: &mut Vec<u8>, values: &[Value]) -> Result<(), AllocError>
+fn push_more(out: &mut Vec<u8>, values: &[Value]) -> Result<(), AllocError>
     ensures { OnOk result (out.new.items ≡ out.old.items ++ flat_map behind_comma (map meant values.now)) }
 {
     for value in values.iter() {
         out.push(b',')?;
-        push_value(heap, out, *value)?;
+        push_value(out, *value)?;
     }
     Ok(())
 }
 
-fn push_row(heap: Global, out: &mut Vec<u8>, row: &[Value]) -> Result<(), AllocError>
+fn push_row(out: &mut Vec<u8>, row: &[Value]) -> Result<(), AllocError>
     ensures { OnOk result (out.new.items ≡ out.old.items ++ line (map meant row.now)) }
 {
-    if let Some((first, rest)) = row.split_first() {
-        push_value(heap, out, *first)?;
-        push_more(heap, out, rest)?;
+    if let [first, rest @ ..] = row {
+        push_value(out, *first)?;
+        push_more(out, rest)?;
     }
     out.push(b'\n')?;
     Ok(())
@@ -68,7 +69,7 @@ pub fn list_rows(heap: Global, rows: &[Row]) -> Result<Vec<u8>, AllocError>
 {
     let mut out = Vec::new(heap);
     for row in rows.iter() {
-        push_row(heap, &mut out, row.as_slice())?;
+        push_row(&mut out, row.as_slice())?;
     }
     Ok(out)
 }

@@ -1,10 +1,14 @@
 // What `ask` says: rows for standard output, or one line for standard error.
+ghost use Rattle.std.specs.Prelude.{Some};
+ghost use Rattle.asking.specs.Replies.{told};
+
 use crate::listing::*;
+use messages::quotes::quote;
 use pagefile::{PageFileError, decode};
 use reference::answering::*;
 use reference::ask;
-use reference_reading::messages::*;
 use std::alloc::{AllocError, Global};
+use std::fmt;
 
 // A reason to end with status 1, as one line.
 #[derive(Drop)]
@@ -13,47 +17,54 @@ pub enum Failure {
     OutOfMemory,
 }
 
+impl fmt::Display for Failure {
+    ghost output = { λ failure. Some (told failure) };
+
+    fn fmt<W: fmt::Write>(&self, f: &mut fmt::Formatter<W>) -> fmt::Result {
+        match self {
+            Failure::Said(line) => f.write_str(line.as_str()),
+            Failure::OutOfMemory => f.write_str("ask: out of memory"),
+        }
+    }
+}
+
 impl From<AllocError> for Failure {
     fn from(_error: AllocError) -> Self {
         Failure::OutOfMemory
     }
 }
 
-fn refused(heap: Global, text: &[u8], refusal: Refusal) -> Result<String, AllocError> {
+// The line for a question that was refused. An Err stands where no memory is left for the line, as `try_map_err` takes it.
+fn refused(heap: Global, refusal: Refusal) -> Result<Failure, Failure> {
     match refusal {
-        Refusal::NotAQuestion(error) => {
-            let reason = error.message(heap, text)?;
-            format!(in heap; "ask: not a question: {reason}")
-        }
+        Refusal::NotAQuestion(error) => Ok(Failure::Said(format!(in heap;
+            "ask: not a question: {error}"
+        )?)),
         Refusal::NotSound(error) => {
-            let reason = error.message(heap, text)?;
-            format!(in heap; "ask: not sound: {reason}")
+            Ok(Failure::Said(format!(in heap; "ask: not sound: {error}")?))
         }
-        Refusal::OutOfMemory => Err(AllocError),
+        Refusal::OutOfMemory => Ok(Failure::OutOfMemory),
     }
 }
 
 // The line for a page file that was cut off, or isn't one.
-fn broken(heap: Global, name: &str) -> Result<String, AllocError> {
-    let name = quote(heap, name)?;
-    format!(in heap; "ask: {name} isn't a whole number of pages of 4096 bytes")
-}
-
-fn words_of(heap: Global, name: &str, pages: &[u8]) -> Result<Vec<u64>, Failure> {
-    match decode(heap, pages) {
-        Ok(words) => Ok(words),
-        Err(PageFileError::NotWhole) => Err(Failure::Said(broken(heap, name)?)),
-        Err(PageFileError::OutOfMemory) => Err(Failure::OutOfMemory),
+fn broken(heap: Global, name: &str, error: PageFileError) -> Result<Failure, Failure> {
+    match error {
+        PageFileError::NotWhole => {
+            let name = quote(heap, name)?;
+            Ok(Failure::Said(format!(in heap;
+                "ask: {name} isn't a whole number of pages of 4096 bytes"
+            )?))
+        }
+        PageFileError::OutOfMemory => Ok(Failure::OutOfMemory),
     }
 }
 
 // The rows that a question comes to on the pages of the file `name`, as they are printed.
 pub fn reply(heap: Global, text: &[u8], name: &str, pages: &[u8]) -> Result<Vec<u8>, Failure> {
-    let words = words_of(heap, name, pages)?;
-    match ask(heap, text, words.as_slice()) {
-        Ok(answer) => Ok(list_rows(heap, answer.rows.as_slice())?),
-        Err(refusal) => Err(Failure::Said(refused(heap, text, refusal)?)),
-    }
+    let words = decode(heap, pages).try_map_err(|error| broken(heap, name, error))?;
+    let answer = ask(heap, text, words.as_slice()).try_map_err(|refusal| refused(heap, refusal))?;
+    Ok(list_rows(heap, answer.rows.as_slice())?)
 }
 
 // The line for a file that can't be read.

@@ -6,14 +6,14 @@ ghost use Rattle.std.specs.Prelude.{◌≡◌, ◌+◌, ◌*◌, ◌≤◌, leng
 use code::code::Code;
 use code::instruction::Instruction;
 use expressions::evaluate::evaluate;
-use expressions::stack::Stack;
 use std::{env, io};
-use values::types::{Comparison, Logic, Number, Operator};
+use values::number::Number;
+use values::types::{Comparison, Logic, Operator};
 
 // Writes `late < 20 and day < 2`.
 fn write_code(code: &mut Code)
-    requires { 2 * code.old.count + 14 ≤ length code.old.words.now }
-    ensures { code.new.count ≡ code.old.count + 7 }
+    requires { 2 * length code.old.instructions + 14 ≤ code.old.size }
+    ensures { length code.new.instructions ≡ length code.old.instructions + 7 }
 {
     code.push(Instruction::Column(0));
     code.push(Instruction::Number(Number { value: 20 }));
@@ -24,34 +24,29 @@ fn write_code(code: &mut Code)
     code.push(Instruction::Operator(Operator::Logic(Logic::And)));
 }
 
-fn count_true(rows: u64, code: &[u64], words: &mut [u64]) -> u64
-    requires { length code.now ≤ 2 * length words.old }
+fn count_true(rows: u64, code: &[u64], stack: &mut [u64]) -> usize
+    requires { length code.now ≤ 2 * length stack.old }
 {
-    let mut stack = Stack::new(words);
-    let mut count = 0;
-    for i in 0..rows {
-        let row = [i % 40, i % 5];
-        if evaluate(code, &row, &mut stack).is_true() {
-            count += 1;
-        }
-    }
-    count
+    (0..rows)
+        .filter(|i| evaluate(code, &[i % 40, i % 5], stack).is_true())
+        .count()
 }
 
 fn rows_asked(rt: &HostRuntime) -> io::Result<u64> {
-    match env::args(rt)?.nth(1) {
-        Some(text) => Ok(text.as_str().parse::<u64>().unwrap_or(0)),
-        None => Ok(0),
-    }
+    let text = env::args(rt)?.nth(1);
+    Ok(
+        text.and_then(|text| text.as_str().parse::<u64>().ok())
+            .unwrap_or(0),
+    )
 }
 
 fn main(rt: HostRuntime) -> io::Result<()> {
     let rows = rows_asked(&rt)?;
     let mut code_words = [0; 14];
-    let mut stack_words = [0; 7];
+    let mut stack = [0; 7];
     let mut code = Code::new(&mut code_words);
     write_code(&mut code);
-    let count = count_true(rows, code.words(), &mut stack_words);
+    let count = count_true(rows, code.words(), &mut stack);
     println!(rt; "{count}")?;
     Ok(())
 }

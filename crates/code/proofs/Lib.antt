@@ -1,3 +1,3 @@
 pub mod Written
-pub mod Fetch
+pub mod InWords
 pub mod ColIndex

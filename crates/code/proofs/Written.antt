@@ -1,9 +1,10 @@
 -- Code put into words.
-use Rattle.std.proofs.Common.{◌≡◌, ℕ, zero, suc, ◌+◌, ◌*◌, ◌/◌, ◌<◌, ◌≤◌, ◌≢◌, List, [], ◌∷◌, ◌++◌, length, get_or, take, set, refl, ap, ◌∙◌, ap₂, append_assoc, arith, length-set, length-take, get_or-set_other, get_or-set_same, take-suc-set}
+use Rattle.std.proofs.Common.{◌≡◌, ℕ, zero, suc, ◌+◌, ◌*◌, ◌/◌, ◌<◌, ◌≤◌, ◌≢◌, List, [], ◌∷◌, ◌++◌, length, get_or, take, set, sym, refl, ap, ◌∙◌, ap₂, append_assoc, arith, length-set, length-take, get_or-set_other, get_or-set_same}
+use Rattle.std.proofs.Math.Seq.{take-suc}
 use Rattle.code.specs.Postfix.{Instr}
 use Rattle.code.specs.Words.{unpacked, instruction_at, unpack_all, code_in}
-use Rattle.code.specs.Views.{code_on}
-use Rattle.code.specs.declared.code.Code.{Code}
+use Rattle.code.specs.Written.{Written as Held}
+use Rattle.code.proofs.InWords.{first_length}
 
 unpack_append : (n : ℕ) (xs : List ℕ) (t a : ℕ) → length xs ≡ 2 * n → unpack_all (xs ++ (t ∷ (a ∷ []))) ≡ unpack_all xs ++ (unpacked t a ∷ [])
 unpack_append zero [] t a h = refl
@@ -12,28 +13,27 @@ unpack_append (suc n) [] t a h = absurd (omega arith)
 unpack_append (suc n) (x ∷ []) t a h = absurd (omega arith)
 unpack_append (suc n) (x ∷ (y ∷ xs)) t a h = ap (λ c. unpacked x y ∷ c) (unpack_append n xs t a (omega arith))
 
-pub written : (ws : List ℕ) (n t a : ℕ) (i : Instr ℕ) → 2 * n + 2 ≤ length ws → unpacked t a ≡ i → code_in (take (2 * (n + 1)) (set (set ws (2 * n) t) (2 * n + 1) a)) ≡ code_in (take (2 * n) ws) ++ (i ∷ [])
+-- the first instructions, and one more
+one_more : (ws : List ℕ) (n : ℕ) → 2 * n + 2 ≤ length ws → code_in (take (2 * (n + 1)) ws) ≡ code_in (take (2 * n) ws) ++ (instruction_at ws n ∷ [])
 unfolding code_in
-written ws n t a i h e =
+one_more ws n h =
     let k : 2 * (n + 1) ≡ suc (2 * n + 1) = omega arith in
-    let l : 2 * n + 1 < length (set ws (2 * n) t) = simp length-set (omega arith) in
-    let run_one : take (2 * (n + 1)) (set (set ws (2 * n) t) (2 * n + 1) a) ≡ take (2 * n + 1) (set ws (2 * n) t) ++ (a ∷ []) = ap (λ j. take j (set (set ws (2 * n) t) (2 * n + 1) a)) k ∙ take-suc-set (set ws (2 * n) t) (2 * n + 1) a l in
     let m : 2 * n + 1 ≡ suc (2 * n) = omega arith in
-    let two : take (2 * n + 1) (set ws (2 * n) t) ≡ take (2 * n) ws ++ (t ∷ []) = ap (λ j. take j (set ws (2 * n) t)) m ∙ take-suc-set ws (2 * n) t (omega arith) in
-    let w : length (take (2 * n) ws) ≡ 2 * n = simp length-take (omega arith) in
-    ap unpack_all (run_one ∙ (ap (λ r. r ++ (a ∷ [])) two ∙ append_assoc (take (2 * n) ws) (t ∷ []) (a ∷ []))) ∙ (unpack_append n (take (2 * n) ws) t a w ∙ ap (λ x. unpack_all (take (2 * n) ws) ++ (x ∷ [])) e)
+    let t = get_or ws (2 * n) 0 in
+    let a = get_or ws (2 * n + 1) 0 in
+    let two : take (2 * n + 1) ws ≡ take (2 * n) ws ++ (t ∷ []) = ap (λ j. take j ws) m ∙ take-suc ws (2 * n) 0 (omega arith) in
+    let both : take (2 * (n + 1)) ws ≡ take (2 * n + 1) ws ++ (a ∷ []) = ap (λ j. take j ws) k ∙ take-suc ws (2 * n + 1) 0 (omega arith) in
+    ap unpack_all (both ∙ (ap (λ r. r ++ (a ∷ [])) two ∙ append_assoc (take (2 * n) ws) (t ∷ []) (a ∷ []))) ∙ unpack_append n (take (2 * n) ws) t a (simp length-take (omega arith))
 
--- as many instructions as are counted
-unpack_length : (n : ℕ) (xs : List ℕ) → length xs ≡ 2 * n → length (unpack_all xs) ≡ n
-unpack_length zero [] h = refl
-unpack_length zero (x ∷ xs) h = absurd (omega arith)
-unpack_length (suc n) [] h = absurd (omega arith)
-unpack_length (suc n) (x ∷ []) h = absurd (omega arith)
-unpack_length (suc n) (x ∷ (y ∷ xs)) h = ap suc (unpack_length n xs (omega arith))
+-- the same instructions are the same code
+same_code : (ws vs : List ℕ) (n : ℕ) → 2 * n ≤ length ws → length vs ≡ length ws → ((k : ℕ) → k < n → instruction_at vs k ≡ instruction_at ws k) → code_in (take (2 * n) vs) ≡ code_in (take (2 * n) ws)
+same_code ws vs zero h l s = refl
+same_code ws vs (suc n) h l s =
+    let e : suc n ≡ n + 1 = omega arith in
+    ap (λ j. code_in (take (2 * j) vs)) e ∙ (one_more vs n (omega arith) ∙ (ap₂ (λ c i. c ++ (i ∷ [])) (same_code ws vs n (omega arith) l (λ k q. s k (omega arith))) (s n (omega arith)) ∙ sym (ap (λ j. code_in (take (2 * j) ws)) e ∙ one_more ws n (omega arith))))
 
-pub code_length : (c : Code) → length (code_on c) ≡ c.count
-unfolding code_on code_in
-code_length c = let b : 2 * c.count ≤ length c.words.now = c.within in unpack_length c.count (take (2 * c.count) c.words.now) (simp length-take (omega arith))
+pub written : (ws vs : List ℕ) (n : ℕ) (i : Instr ℕ) → 2 * n + 2 ≤ length ws → length vs ≡ length ws → instruction_at vs n ≡ i → ((k : ℕ) → k ≢ n → instruction_at vs k ≡ instruction_at ws k) → code_in (take (2 * (n + 1)) vs) ≡ code_in (take (2 * n) ws) ++ (i ∷ [])
+written ws vs n i h l e s = one_more vs n (omega arith) ∙ ap₂ (λ c j. c ++ (j ∷ [])) (same_code ws vs n (omega arith) l (λ k q. s k (omega arith))) e
 
 -- an instruction in the place of another
 pub stored : (ws : List ℕ) (i t a : ℕ) → i < length ws / 2 → instruction_at (set (set ws (2 * i) t) (2 * i + 1) a) i ≡ unpacked t a
@@ -47,3 +47,10 @@ kept ws i k t a p q = get_or-set_other (set ws (2 * i) t) (2 * i + 1) k a 0 q �
 
 pub others : (ws : List ℕ) (i t a k : ℕ) → k ≢ i → instruction_at (set (set ws (2 * i) t) (2 * i + 1) a) k ≡ instruction_at ws k
 others ws i t a k h = ap₂ unpacked (kept ws i (2 * k) t a (omega arith) (omega arith)) (kept ws i (2 * k + 1) t a (omega arith) (omega arith))
+
+-- there is room for one more
+pub room_left : (ws : List ℕ) (n : ℕ) (v : Held) → record { instructions = code_in (take (2 * n) ws); size = length ws } ≡ v → 2 * n ≤ length ws → 2 * length v.instructions + 2 ≤ v.size → 2 * n + 2 ≤ length ws
+room_left ws n v e b h =
+    let l = first_length ws n b in
+    let i = ap (λ s. length s.instructions) e in
+    let s = ap (λ s. s.size) e in omega arith

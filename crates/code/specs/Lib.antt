@@ -1,4 +1,5 @@
 pub mod Postfix
+pub mod Operators
 pub mod Words
-pub mod Views
+pub mod Written
 pub mod Room

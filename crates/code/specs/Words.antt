@@ -1,5 +1,5 @@
 -- Code in words, two to an instruction: the operation and its operand.
-use Rattle.std.specs.Prelude.{ℕ, ◌+◌, ◌*◌, cond, List, [], ◌∷◌, drop, ◌==◌, nat_lt, slice_index}
+use Rattle.std.specs.Prelude.{ℕ, ◌+◌, ◌*◌, cond, List, [], ◌∷◌, ◌==◌, nat_lt, slice_index}
 use Rattle.meaning.specs.Values.{t_num, t_word, num_limit, word_limit, op_arith, op_compare, op_logic, op_add, op_sub, op_mul, op_div, op_rem, op_eq, op_ne, op_lt, op_le, op_and, op_or}
 use Rattle.values.specs.Types.{type_of_kind, op_of}
 use Rattle.code.specs.Postfix.{Instr, i_num, i_word, i_null, i_col, i_op, i_not, i_none, i_if}
@@ -43,7 +43,3 @@ unpack_all (t ∷ (a ∷ ws)) = unpacked t a ∷ unpack_all ws
 -- the code in words
 unfoldable pub code_in : List ℕ → List (Instr ℕ)
 code_in ws = unpack_all ws
-
--- the code in words from the i-th instruction on
-unfoldable pub code_from : List ℕ → ℕ → List (Instr ℕ)
-code_from ws i = unpack_all (drop (2 * i) ws)

@@ -3,5 +3,7 @@
 
 pub mod code;
 pub mod instruction;
+pub mod instructions;
 pub mod layout;
-pub mod writing;
+pub mod operators;
+pub mod room;

@@ -1,14 +1,12 @@
 -- The columns that code names.
-use Rattle.std.proofs.Common.{◌≡◌, ℕ, zero, suc, ◌+◌, ◌/◌, ◌<◌, ◌≤◌, Bool, true, false, ◌||◌, eqb, List, [], ◌∷◌, ◌++◌, length, sym, refl, ap, ◌∙◌, ap₂, arith}
+use Rattle.std.proofs.Common.{◌≡◌, ℕ, zero, suc, ◌<◌, Bool, true, false, ◌||◌, eqb, List, [], ◌∷◌, ◌++◌, length, sym, refl, ap, ◌∙◌, ap₂, arith}
 use mathlib.Core.Option.{some}
 use Rattle.meaning.specs.Base.{each, nth, any, Bytes, same_bytes, all_different}
 use Rattle.meaning.specs.Values.{Expr, e_num, e_word, e_null, e_col, e_op, e_not, e_none, e_if, Col, names_in}
 use Rattle.meaning.specs.Steps.{col_names}
-use Rattle.meaning.proofs.Names.{or_false}
+use Rattle.std.proofs.Math.Bool.{or-false}
 use Rattle.column_set.specs.Membership.{has, Marks}
 use Rattle.code.specs.Postfix.{Instr, i_op, i_not, i_none, i_if, postfix, map_col, col_index, code_for}
-use Rattle.code.specs.Words.{instruction_at, code_from, code_in}
-use Rattle.code.proofs.Fetch.{from_start, fetched, fetched_all}
 use Rattle.code.proofs.ColIndex.{index_is}
 use Rattle.code_columns.specs.Columns.{names_col}
 
@@ -34,7 +32,7 @@ module _ (p : Bytes → ℕ) (k : ℕ) where
   named e = any (λ x. eqb (p x) k) (names_in e)
 
   behind : (c d : List (Instr Bytes)) → any is_k d ≡ false → any is_k (c ++ d) ≡ any is_k c
-  behind c d h = any_append is_k c d ∙ (ap (λ b. any is_k c || b) h ∙ or_false (any is_k c))
+  behind c d h = any_append is_k c d ∙ (ap (λ b. any is_k c || b) h ∙ or-false (any is_k c))
 
   postfix_names : (e : Expr) → any is_k (postfix e) ≡ named e
   postfix_names (e_num n) = refl
@@ -57,17 +55,14 @@ marks_named cs e bits o h k c n = h k (nth_below cs k c n) ∙ (any_each (names_
     nth_below (d ∷ cs) zero c e = omega arith
     nth_below (d ∷ cs) (suc k) c e = let r = nth_below cs k c e in omega arith
 
--- turns of the loop
-pub names_start : (ws : List ℕ) (bits : ℕ) → ((k : ℕ) → has bits k ≡ false) → (k : ℕ) → (has bits k || any (names_col k) (code_from ws 0)) ≡ any (names_col k) (code_in ws)
-names_start ws bits h k = ap₂ (λ a c. a || any (names_col k) c) (h k) (from_start ws)
-
-pub names_turn : (ws : List ℕ) (i : ℕ) (x : Instr ℕ) (k a b : ℕ) (all : Bool) → i < length ws / 2 → x ≡ instruction_at ws i → has b k ≡ (names_col k x || has a k) → (has a k || any (names_col k) (code_from ws i)) ≡ all → (has b k || any (names_col k) (code_from ws (i + 1))) ≡ all
-names_turn ws i x k a b all l e h p = ap (λ z. z || any (names_col k) (code_from ws (i + 1))) (h ∙ ap (λ y. names_col k y || has a k) e) ∙ (turn (names_col k (instruction_at ws i)) (has a k) (any (names_col k) (code_from ws (i + 1))) ∙ (sym (ap (λ c. has a k || any (names_col k) c) (fetched ws i l)) ∙ p))
+-- an instruction goes from those left into the set
+pub names_turn : (k : ℕ) {before after : List (Instr ℕ)} {x : Instr ℕ} (a b all : Bool) → before ≡ x ∷ after → b ≡ (names_col k x || a) → (a || any (names_col k) before) ≡ all → (b || any (names_col k) after) ≡ all
+names_turn k {after = is} {x = x} a b all e h p = ap (λ z. z || any (names_col k) is) h ∙ (turn (names_col k x) a (any (names_col k) is) ∙ (sym (ap (λ c. a || any (names_col k) c) e) ∙ p))
   where
     turn : (x y z : Bool) → ((x || y) || z) ≡ (y || (x || z))
     turn true true z = refl
     turn true false z = refl
     turn false y z = refl
 
-pub names_end : (ws : List ℕ) (i k a : ℕ) (all : Bool) → length ws / 2 ≤ i → (has a k || any (names_col k) (code_from ws i)) ≡ all → has a k ≡ all
-names_end ws i k a all l p = sym (or_false (has a k)) ∙ (sym (ap (λ c. has a k || any (names_col k) c) (fetched_all ws i l)) ∙ p)
+pub names_end : (k : ℕ) {is : List (Instr ℕ)} (a all : Bool) → is ≡ [] → (a || any (names_col k) is) ≡ all → a ≡ all
+names_end k a all e p = sym (or-false a) ∙ (sym (ap (λ c. a || any (names_col k) c) e) ∙ p)

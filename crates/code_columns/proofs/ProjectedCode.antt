@@ -1,11 +1,14 @@
 -- Code over a table's columns, and over those that are used.
-use Rattle.std.proofs.Common.{◌≡◌, ℕ, suc, ◌+◌, ◌*◌, ◌/◌, ◌<◌, true, false, cond, ◌||◌, List, [], ◌∷◌, ◌++◌, length, get_or, take, sym, refl, ap, ◌∙◌, ap₂, arith}
+use Rattle.std.proofs.Common.{◌≡◌, ℕ, suc, ◌+◌, ◌*◌, ◌/◌, ◌<◌, true, false, cond, List, [], ◌∷◌, ◌++◌, length, get_or, take, sym, refl, ap, ◌∙◌, ap₂, arith}
 use Rattle.std.proofs.lemmas.Bool.{lt-ltb, or_left, or_right}
 use Rattle.meaning.specs.Base.{each, Bytes, among, same_bytes}
 use Rattle.meaning.specs.Values.{Expr, e_num, e_word, e_null, e_col, e_op, e_not, e_none, e_if, Col, names_in}
-use Rattle.meaning.proofs.Names.{same_is, same_self}
+use Rattle.meaning.proofs.Names.{same_is, same_self, in_append}
+use Rattle.meaning.proofs.Pairs.{each_append}
+use Rattle.projection.proofs.Steps.{each_each}
 use Rattle.projection.specs.Projected.{project_cols}
 use Rattle.column_set.specs.Membership.{count_before, Marks}
+use Rattle.column_set.specs.declared.ColumnSet.{ColumnSet}
 use Rattle.column_set.proofs.Places.{before_projected}
 use Rattle.code.specs.Postfix.{Instr, i_col, i_op, i_not, i_none, i_if, postfix, map_col, col_index, code_for}
 use Rattle.code.specs.Words.{unpacked, instruction_at, unpack_all, code_in}
@@ -45,16 +48,12 @@ index_projected us x u (c ∷ cs) =
     ]) refl
 
 -- of an expression
-module _ (bits width : ℕ) (us : List Bytes) (cs : List Col) (l : length cs ≡ width) (m : Marks bits us cs) where
+module _ (set : ColumnSet) (us : List Bytes) (cs : List Col) (l : length cs ≡ set.width) (m : Marks set.bits us cs) where
   abbrev to : ℕ → ℕ
-  to = new_index bits width
+  to = new_index set
 
   new_index_is : (x : Bytes) → among x us ≡ true → col_index cs x < length cs → to (col_index cs x) ≡ col_index (project_cols us cs) x
-  new_index_is x u h = let q : col_index cs x < width = omega arith in ap (λ b. cond b (count_before bits (col_index cs x)) (col_index cs x)) (lt-ltb (col_index cs x) width q) ∙ (before_projected bits us cs m (col_index cs x) (omega arith) ∙ sym (index_projected us x u cs))
-
-  each_append : (f : Instr Bytes → Instr ℕ) (c d : List (Instr Bytes)) → each f (c ++ d) ≡ each f c ++ each f d
-  each_append f [] d = refl
-  each_append f (i ∷ c) d = ap (λ r. f i ∷ r) (each_append f c d)
+  new_index_is x u h = let q : col_index cs x < set.width = omega arith in ap (λ b. cond b (count_before set.bits (col_index cs x)) (col_index cs x)) (lt-ltb (col_index cs x) set.width q) ∙ (before_projected set.bits us cs m (col_index cs x) (omega arith) ∙ sym (index_projected us x u cs))
 
   abbrev one_by : Instr Bytes → Instr ℕ
   one_by i = map_col to (map_col (col_index cs) i)
@@ -63,12 +62,10 @@ module _ (bits width : ℕ) (us : List Bytes) (cs : List Col) (l : length cs ≡
   other_by i = map_col (col_index (project_cols us cs)) i
 
   among_left : (x : Bytes) (xs ys : List Bytes) → among x xs ≡ true → among x (xs ++ ys) ≡ true
-  among_left x [] ys h = absurd (let z : ◌≡◌ {A = ℕ} 0 1 = cc in omega arith)
-  among_left x (y ∷ xs) ys h = elim (same_bytes x y) as (λ b. (b || among x xs) ≡ true → (b || among x (xs ++ ys)) ≡ true) [ true ↦ λ g. refl | false ↦ λ g. among_left x xs ys g ] h
+  among_left x xs ys h = in_append xs ys x ∙ or_left (among x xs) (among x ys) h
 
   among_right : (x : Bytes) (xs ys : List Bytes) → among x ys ≡ true → among x (xs ++ ys) ≡ true
-  among_right x [] ys h = h
-  among_right x (y ∷ xs) ys h = or_right (same_bytes x y) (among x (xs ++ ys)) (among_right x xs ys h)
+  among_right x xs ys h = in_append xs ys x ∙ or_right (among x xs) (among x ys) h
 
   postfix_moved : (e : Expr) → NamesUsed us cs e → each one_by (postfix e) ≡ each other_by (postfix e)
   postfix_moved (e_num n) h = refl
@@ -86,9 +83,5 @@ module _ (bits width : ℕ) (us : List Bytes) (cs : List Col) (l : length cs ≡
       ∙ sym (each_append other_by (postfix b) _)))
       ∙ sym (each_append other_by (postfix a) _))
 
-  each_each : (c : List (Instr Bytes)) → each (map_col to) (each (map_col (col_index cs)) c) ≡ each one_by c
-  each_each [] = refl
-  each_each (i ∷ c) = ap (λ r. one_by i ∷ r) (each_each c)
-
   pub projected_code : (e : Expr) → NamesUsed us cs e → each (map_col to) (code_for cs e) ≡ code_for (project_cols us cs) e
-  projected_code e h = each_each (postfix e) ∙ postfix_moved e h
+  projected_code e h = each_each (map_col to) (map_col (col_index cs)) (postfix e) ∙ postfix_moved e h

@@ -1,10 +1,10 @@
 -- The names in an expression that has a type are those of columns.
-use Rattle.std.proofs.Common.{◌≡◌, ℕ, ◌<◌, Bool, true, false, ◌⊎◌, List, [], ◌∷◌, ◌++◌, length, sym, refl, subst, inl, inr, ⊎_elim, arith}
+use Rattle.std.proofs.Common.{◌≡◌, ℕ, ◌<◌, Bool, true, false, ◌⊎◌, List, [], ◌∷◌, ◌++◌, length, sym, refl, ◌∙◌, subst, ⊎_elim, arith}
 use mathlib.Core.Option.{Option, some, none}
-use Rattle.std.proofs.lemmas.Bool.{or_cases, or_left, or_right, true≢false}
+use Rattle.std.proofs.lemmas.Bool.{or_cases, true≢false}
 use Rattle.meaning.specs.Base.{and_then, when, Bytes, same_bytes, among}
 use Rattle.meaning.specs.Values.{Ty, t_num, same_type, Op, op_arith as on_numbers, op_compare, op_logic, Expr, e_num, e_word, e_null, e_col, e_op, e_not, e_none, e_if, Col, col_type, expect_type, op_type, type_of, names_in}
-use Rattle.meaning.proofs.Names.{same_is}
+use Rattle.meaning.proofs.Names.{same_is, in_append}
 use Rattle.code.specs.Postfix.{col_index}
 use Rattle.code.proofs.ColIndex.{index_found}
 
@@ -35,8 +35,7 @@ op_both (op_compare o) s t h = (from_on s _ h, let q = on_then s (λ u. expect_t
 op_both (op_logic o) s t h = (want_left s t_num _ h, want_left t t_num _ (want_right s t_num (expect_type t t_num (some t_num)) h))
 
 among_cases : (x : Bytes) (xs ys : List Bytes) → among x (xs ++ ys) ≡ true → (among x xs ≡ true) ⊎ (among x ys ≡ true)
-among_cases x [] ys h = inr h
-among_cases x (y ∷ xs) ys h = ⊎_elim (λ e. inl (or_left (same_bytes x y) (among x xs) e)) (λ k. ⊎_elim (λ e. inl (or_right (same_bytes x y) (among x xs) e)) inr (among_cases x xs ys k)) (or_cases (same_bytes x y) (among x (xs ++ ys)) h)
+among_cases x xs ys h = or_cases (among x xs) (among x ys) (sym (in_append xs ys x) ∙ h)
 
 module _ (cs : List Col) (x : Bytes) where
   abbrev There : Type 0

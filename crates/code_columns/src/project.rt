@@ -8,15 +8,11 @@ use column_set::ColumnSet;
 
 // An instruction with its column counted among those of a set.
 fn project_one(instruction: Instruction, used: ColumnSet) -> Instruction
-    ensures { instr_of result ≡ map_col (new_index used.bits used.width) (instr_of instruction) }
+    ensures { instr_of result ≡ map_col (new_index used) (instr_of instruction) }
 {
     match instruction {
-        Instruction::Column(i) => {
-            if i < used.width() as u64 {
-                Instruction::Column(used.count_before(i as u32) as u64)
-            } else {
-                instruction
-            }
+        Instruction::Column(i) if i < u64::from(used.width()) => {
+            Instruction::Column(u64::from(used.count_before(i as u32)))
         }
         _ => instruction,
     }
@@ -24,8 +20,9 @@ fn project_one(instruction: Instruction, used: ColumnSet) -> Instruction
 
 // Turns code over a table's columns into code over those of a set.
 pub fn project(code: &mut [u64], used: ColumnSet)
-    ensures { Projected code.old used.bits used.width code.new }
+    ensures { Projected code.old used code.new }
 {
+    // By an index: nothing can be proved of what `chunks_exact_mut` leaves in the slice.
     for i in 0..code.len() / 2 {
         let instruction = project_one(Instruction::fetch(code, i), used);
         instruction.store(code, i);

@@ -3,6 +3,7 @@ use Rattle.std.proofs.Common.{◌≡◌, ℕ, zero, suc, ◌+◌, ◌-◌, ◌/�
 use native.Mathlib.Nat.{div-eq_of_lt}
 use lib.Bits.{bit_or, bit_xor, or_step, xor_step, differ}
 use lib.Count.{ones, ones_cat, count_trailing_zeros, under}
+use Rattle.std.proofs.Math.Bool.{or_comm}
 use Rattle.std.proofs.lemmas.Bool.{true≢false}
 use Rattle.std.proofs.lemmas.Nat.{pow_below, shr-shr, or_shr, xor_shr, mod-pow-add}
 use Rattle.std.proofs.lemmas.Bool.Decides.{nat_tests, leb_tells}
@@ -99,13 +100,7 @@ trailing_first (suc k) n h e =
 
 -- what the operations do
 pub inserted : (b i r : ℕ) → r ≡ 2 ^ i → (k : ℕ) → has (bit_or b r) k ≡ (eqb k i || has b k)
-inserted b i r e k = ap (λ x. has (bit_or b x) k) e ∙ (has_or b (2 ^ i) k ∙ (ap (λ z. has b k || z) (has_pow i k) ∙ turned (has b k) (eqb k i)))
-  where
-    turned : (x y : Bool) → (x || y) ≡ (y || x)
-    turned true true = refl
-    turned true false = refl
-    turned false true = refl
-    turned false false = refl
+inserted b i r e k = ap (λ x. has (bit_or b x) k) e ∙ (has_or b (2 ^ i) k ∙ (ap (λ z. has b k || z) (has_pow i k) ∙ or_comm (has b k) (eqb k i)))
 
 pub removed : (b i r : ℕ) → r ≡ 2 ^ i → has b i ≡ true → (k : ℕ) → has (bit_xor b r) k ≡ (has b k && not (eqb k i))
 removed b i r e h k = ap (λ x. has (bit_xor b x) k) e ∙ (has_xor b (2 ^ i) k ∙ (ap (other (has b k)) (has_pow i k) ∙ cases (has b k) (eqb k i) (λ q. let same : k ≡ i = grind (arith, nat_tests) in ap (has b) same ∙ h)))

@@ -1,11 +1,15 @@
 -- Sets of columns and tables that have only these.
-use Rattle.std.proofs.Common.{◌≡◌, ℕ, zero, suc, ◌+◌, ◌<◌, ◌≤◌, Bool, true, false, cond, not, ◌&&◌, eqb, List, [], ◌∷◌, ◌++◌, length, take, set, sym, refl, ap, ◌∙◌, ap₂, ⊎_elim, append_assoc, append-nil, add-one, arith, take-suc-set}
+use Rattle.std.proofs.Common.{◌≡◌, ℕ, zero, suc, ◌+◌, ◌^◌, ◌<◌, ◌≤◌, Bool, true, false, cond, not, ◌&&◌, eqb, List, [], ◌∷◌, ◌++◌, length, take, set, sym, refl, ap, ◌∙◌, ap₂, ⊎_elim, append_assoc, length-append, add-one, arith, take-suc-set}
 use mathlib.Core.Option.{some}
+use Rattle.std.specs.Prelude.{Some, None, Option as Given}
+use Rattle.std.specs.Iterator.{YieldsFirst, item_count, MakesProgress}
+use Rattle.std.proofs.Math.Bool.{and-true}
 use Rattle.std.proofs.lemmas.Bool.{eq-eqb, ne_eqb, cases_eq}
 use Rattle.meaning.specs.Base.{nth, filter, Bytes, among}
 use Rattle.meaning.specs.Values.{Col}
 use Rattle.projection.specs.Projected.{project_cols}
-use Rattle.column_set.specs.Membership.{has, count_before, columns_before, Removed, First, Marks}
+use Rattle.column_set.specs.Membership.{has, count_before, columns_before, First, Taken, Marks}
+use Rattle.column_set.proofs.Has.{first_within}
 
 there : {A : Type 0} (xs : List A) (i : ℕ) → i < length xs → (x : A) × (nth xs i ≡ some x)
 there [] i h = absurd (omega arith)
@@ -25,26 +29,6 @@ before_projected bits us cs m (suc i) h =
     let t = there cs i (omega arith) in
     ap₂ (λ a b. a + cond b 1 0) (before_projected bits us cs m i (omega arith)) (m i t.0 t.1) ∙ sym (one_more (λ c. among c.name us) cs i t.0 t.1)
 
-and_true : (z : Bool) → (z && true) ≡ z
-and_true true = refl
-and_true false = refl
-
-pub one_fewer : (b c i : ℕ) → Removed b i c → has b i ≡ true → (w : ℕ) → (i < w → count_before b w ≡ count_before c w + 1) × (w ≤ i → count_before b w ≡ count_before c w)
-one_fewer b c i r h zero = (λ l. absurd (omega arith), λ l. refl)
-one_fewer b c i r h (suc w) =
-    let p = one_fewer b c i r h w in
-    ⊎_elim
-    (λ e. let x : has b w ≡ true = ap (has b) e ∙ h in
-    let y : has c w ≡ false = r w ∙ (ap (λ z. has b w && not z) (eq-eqb w i e) ∙ ap (λ z. z && false) x) in
-    let q = p.1 (omega arith) in
-    let s : count_before b (suc w) ≡ count_before b w + 1 = ap (λ z. count_before b w + cond z 1 0) x in
-    let t : count_before c (suc w) ≡ count_before c w + 0 = ap (λ z. count_before c w + cond z 1 0) y in
-    (λ l. omega arith, λ l. absurd (omega arith)))
-    (λ e. let y : has c w ≡ has b w = r w ∙ (ap (λ z. has b w && not z) (ne_eqb w i e) ∙ and_true (has b w)) in
-    let t : count_before c (suc w) ≡ count_before c w + cond (has b w) 1 0 = ap (λ z. count_before c w + cond z 1 0) y in
-    (λ l. let k : i < w = omega arith in let q = p.0 k in omega arith, λ l. let k : w ≤ i = omega arith in let q = p.1 k in omega arith))
-    (cases_eq w i)
-
 pub before_most : (b w : ℕ) → count_before b w ≤ w
 before_most b zero = omega arith
 before_most b (suc w) = let h = before_most b w in elim (has b w) as (λ z. count_before b w + cond z 1 0 ≤ suc w) [ true ↦ omega arith | false ↦ omega arith ]
@@ -63,21 +47,26 @@ first_listed b i c (suc w) f h =
     let p : columns_before b w ≡ [] = none_before b w (λ k l. f.least k (omega arith)) in
     let q : columns_before c w ≡ [] = none_before c w (λ k l. f.others k ∙ ap (λ z. z && not (eqb k i)) (f.least k (omega arith))) in
     ap₂ (λ l z. l ++ cond z (w ∷ []) []) p x ∙ (ap (λ j. j ∷ []) e ∙ sym (ap₂ (λ l z. i ∷ (l ++ cond z (w ∷ []) [])) q y)))
-    (λ e. let y : has b w ≡ has c w = sym (f.others w ∙ (ap (λ z. has b w && not z) (ne_eqb w i e) ∙ and_true (has b w))) in
+    (λ e. let y : has b w ≡ has c w = sym (f.others w ∙ (ap (λ z. has b w && not z) (ne_eqb w i e) ∙ and-true (has b w))) in
     ap₂ (λ l z. l ++ cond z (w ∷ []) []) (first_listed b i c w f (omega arith)) y)
     (cases_eq w i)
 
-pub listed : (b i c n w : ℕ) (ws all : List ℕ) → First b i c → i < w → n < length ws → take n ws ++ columns_before b w ≡ all → take (n + 1) (set ws n i) ++ columns_before c w ≡ all
-listed b i c n w ws all f h l e =
-    let t : take (n + 1) (set ws n i) ≡ take n ws ++ (i ∷ []) = ap (λ k. take k (set ws n i)) (add-one n) ∙ take-suc-set ws n i l in
-    ap (λ xs. xs ++ columns_before c w) t ∙ (append_assoc (take n ws) (i ∷ []) (columns_before c w) ∙ (ap (λ xs. take n ws ++ xs) (sym (first_listed b i c w f h)) ∙ e))
+-- a call of the iterator gives the first column that is left
+pub yields : (b w : ℕ) (r : Given ℕ) (c v : ℕ) → b < 2 ^ w → Taken b r c → v ≡ w → YieldsFirst (λ s. s) (columns_before b w) r (columns_before c v)
+yields b w None c v l t e = (none_before b w (λ k q. t.0 k), none_before c v (λ k q. ap (λ x. has x k) t.1 ∙ t.0 k))
+yields b w (Some i) c v l f e = first_listed b i c w f (first_within b w i l f.is_in) ∙ ap (λ x. i ∷ columns_before c x) (sym e)
 
-pub all_listed : (b n w : ℕ) (ws all : List ℕ) → ((k : ℕ) → has b k ≡ false) → take n ws ++ columns_before b w ≡ all → take n ws ≡ all
-all_listed b n w ws all h e = sym (append-nil (take n ws)) ∙ (ap (λ xs. take n ws ++ xs) (sym (none_before b w (λ k l. h k))) ∙ e)
+pub progress : (s : List ℕ) (r : Given ℕ) (t : List ℕ) → YieldsFirst (λ l. l) s r t → MakesProgress (λ l. Unit {0}) (item_count (λ l. l)) s r t
+progress s None t h = record { on = λ f. tt; keeps = tt; rests = λ f. tt }
+progress s (Some i) t h = record { on = λ f. (tt, tt, omega (arith, ap length h)); keeps = tt; rests = λ f. tt }
 
-pub none_counted : (b w : ℕ) → ((k : ℕ) → has b k ≡ false) → count_before b w ≡ 0
-none_counted b zero h = refl
-none_counted b (suc w) h = ap₂ (λ n z. n + cond z 1 0) (none_counted b w h) (h w)
+-- columns written, one after the other
+pub columns_counted : (b w : ℕ) → length (columns_before b w) ≡ count_before b w
+columns_counted b zero = refl
+columns_counted b (suc w) = length-append (columns_before b w) (cond (has b w) (w ∷ []) []) ∙ ap₂ ◌+◌ (columns_counted b w) (elim (has b w) as (λ z. length (cond z (w ∷ []) []) ≡ cond z 1 0) [ true ↦ refl | false ↦ refl ])
 
-pub one_listed : (b i c n w all : ℕ) → First b i c → i < w → n + count_before b w ≡ count_before all w → (n < w) × (n + 1 + count_before c w ≡ count_before all w)
-one_listed b i c n w all f h e = let p = (one_fewer b c i f.others f.is_in w).0 h in let m = before_most all w in (omega arith, omega arith)
+pub columns_few : (b w : ℕ) → length (columns_before b w) ≤ w
+columns_few b w = let e = columns_counted b w in let m = before_most b w in omega arith
+
+pub one_written : (n x : ℕ) (ws rest : List ℕ) → n < length ws → take (n + 1) (set ws n x) ++ rest ≡ take n ws ++ (x ∷ rest)
+one_written n x ws rest l = ap (λ k. take k (set ws n x) ++ rest) (add-one n) ∙ (ap (λ xs. xs ++ rest) (take-suc-set ws n x l) ∙ append_assoc (take n ws) (x ∷ []) rest)

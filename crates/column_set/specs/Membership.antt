@@ -50,11 +50,6 @@ abbrev pub Taken : ℕ → Given ℕ → ℕ → Type 0
 Taken before None after = Empty before × (after ≡ before)
 Taken before (Some i) after = First before i after
 
--- there is a column fewer of those before the w-th, where one was taken
-abbrev pub Fewer : ℕ → ℕ → Given ℕ → ℕ → Type 0
-Fewer before w None after = Unit {0}
-Fewer before w (Some i) after = count_before before w ≡ count_before after w + 1
-
 -- the set has those of the columns cs whose names are among us
 abbrev pub Marks : ℕ → List Bytes → List Col → Type 0
 Marks bits us cs = (k : ℕ) (c : Col) → nth cs k ≡ some c → has bits k ≡ among c.name us

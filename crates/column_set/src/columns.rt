@@ -1,8 +1,9 @@
 ghost use Rattle.std.specs.Prelude.{◌≡◌, ◌≤◌, length, take};
-ghost use Rattle.column_set.specs.Membership.{count_before, columns_before, Taken};
-ghost use Rattle.std.specs.Iterator.{at_most};
+ghost use Rattle.std.specs.Iterator.{YieldsFirst, item_count};
+ghost use Rattle.column_set.specs.Membership.{count_before, columns_before};
 
 use crate::ColumnSet;
+use std::marker::Model;
 
 // The columns of a set, one after the other.
 #[derive(Drop)]
@@ -10,10 +11,19 @@ pub struct Columns {
     rest: ColumnSet,
 }
 
+impl Model for Columns {
+    ghost use Rattle.std.specs.Prelude.{ℕ, List};
+    ghost use Rattle.column_set.specs.Membership.{columns_before};
+
+    ghost Value = { List ℕ };
+
+    ghost view = { λ s. columns_before s.rest.bits s.rest.width };
+}
+
 impl ColumnSet {
     // Its columns, in order.
     pub fn columns(self) -> Columns
-        ensures { result.rest ≡ self }
+        ensures { result ≡ columns_before self.bits self.width }
     {
         Columns { rest: self }
     }
@@ -24,22 +34,20 @@ impl ColumnSet {
         ensures count { result ≡ count_before self.bits self.width }
         ensures listed { take result into.new ≡ columns_before self.bits self.width }
     {
-        let mut n = 0;
-        for column in self.columns() {
-            into[n] = column as u64;
-            n += 1;
+        for (place, column) in self.columns().enumerate() {
+            // By place: nothing is known of a slice's words after an adapter of its iter_mut.
+            into[place] = u64::from(column);
         }
-        n
+        self.len() as usize
     }
 }
 
 impl Iterator for Columns {
     type Item = u32;
 
-    // The first of what is left comes, and the others are left.
-    ghost next_gives = { λ s r t. Taken s.rest.bits r t.rest.bits × (t.rest.width ≡ s.rest.width) };
+    ghost next_gives = { YieldsFirst (λ s. s) };
 
-    ghost remaining = { λ s. at_most (count_before s.rest.bits s.rest.width) };
+    ghost remaining = { item_count (λ s. s) };
 
     fn next(&mut self) -> Option<u32> {
         self.rest.take_first()

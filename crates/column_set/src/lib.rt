@@ -4,10 +4,12 @@
 pub mod columns;
 
 ghost use Rattle.std.specs.Prelude.{◌≡◌, ◌-◌, ◌^◌, ◌<◌, ◌≤◌};
-ghost use Rattle.column_set.specs.Membership.{has, count_before, Empty, AllBefore, Inserted, Removed, United, Taken, Fewer, ProjectedPlace};
+ghost use Rattle.column_set.specs.Membership.{has, count_before, Empty, AllBefore, Inserted, Removed, United, Taken, ProjectedPlace};
 
-// Which of a table's columns, by their numbers: a bit for each.
-#[derive(Clone, Copy)]
+// Which of a table's columns, by their numbers: a bit for each. It has no model, since a `Copy` struct's has to give
+// the fields back: its value would be these two again. What changes a set says that its width stays, as no invariant
+// can.
+#[derive(Clone, Copy, Debug, PartialEq, Eq)]
 pub struct ColumnSet {
     bits: u64,
     width: u32,
@@ -28,15 +30,12 @@ fn bits_before(i: u32) -> u64
     requires { i ≤ 64 }
     ensures { result ≡ 2 ^ i - 1 }
 {
-    if i == 64 {
-        0xffff_ffff_ffff_ffff
-    } else {
-        bit(i) - 1
-    }
+    if i == 64 { u64::MAX } else { bit(i) - 1 }
 }
 
 impl ColumnSet {
     // None of so many columns.
+    // A width is asked to be at most 64 here and in all: a type for it would be made at each call only to be opened.
     pub fn empty(width: u32) -> ColumnSet
         requires { width ≤ 64 }
         ensures width { result.width ≡ width }
@@ -59,7 +58,8 @@ impl ColumnSet {
 
     // How many columns the table has.
     pub fn width(self) -> u32
-        ensures { (result ≡ self.width) × (result ≤ 64) }
+        ensures width { result ≡ self.width }
+        ensures few { result ≤ 64 }
     {
         self.width
     }
@@ -67,11 +67,7 @@ impl ColumnSet {
     pub fn contains(self, i: u32) -> bool
         ensures { result ≡ has self.bits i }
     {
-        if i < self.width {
-            (self.bits >> i) % 2 == 1
-        } else {
-            false
-        }
+        i < self.width && (self.bits >> i) % 2 == 1
     }
 
     pub fn insert(&mut self, i: u32)
@@ -124,7 +120,6 @@ impl ColumnSet {
     fn take_first(&mut self) -> Option<u32>
         ensures width { self.new.width ≡ self.old.width }
         ensures first { Taken self.old.bits result self.new.bits }
-        ensures fewer { Fewer self.old.bits self.old.width result self.new.bits }
     {
         if self.bits == 0 {
             return None;

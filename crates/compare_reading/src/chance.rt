@@ -20,10 +20,9 @@ impl Chance {
 
     // A number below the limit; 0 below 0.
     pub fn below(&mut self, limit: usize) -> usize {
-        match self.number().checked_rem(limit as u64) {
-            Some(n) => n as usize,
-            None => 0,
-        }
+        self.number()
+            .checked_rem(limit as u64)
+            .map_or(0, |n| n as usize)
     }
 
     pub fn one_in(&mut self, n: usize) -> bool {
@@ -34,15 +33,9 @@ impl Chance {
         (self.number() & 0xff) as u8
     }
 
-    // One of these bytes.
-    pub fn byte_of(&mut self, bytes: &[u8]) -> u8 {
-        let i = self.below(bytes.len());
-        bytes.get(i).copied().unwrap_or(b'_')
-    }
-
-    // One of these pieces.
-    pub fn piece_of(&mut self, pieces: &[&'static [u8]]) -> &'static [u8] {
-        let i = self.below(pieces.len());
-        pieces.get(i).copied().unwrap_or(b"_")
+    // One of these items, or the default where there is none: all callers have some, so it is no Option.
+    pub fn one_of<T: Copy + Default>(&mut self, items: &[T]) -> T {
+        let i = self.below(items.len());
+        items.get(i).copied().unwrap_or_default()
     }
 }

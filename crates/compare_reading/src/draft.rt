@@ -1,5 +1,6 @@
 // A text that grows piece by piece, with blanks by chance.
 use crate::chance::Chance;
+use language_pieces::bytes::is_word_byte;
 use std::alloc::{AllocError, Global};
 
 const LETTERS: &[u8] = b"abcdefghijklmnopqrstuvwxyzABCXYZ_";
@@ -27,9 +28,7 @@ const TOO_LARGE: [&[u8]; 4] = [
     b"340282366920938463463374607431768211456",
 ];
 
-pub fn is_word_byte(byte: u8) -> bool {
-    byte.is_ascii_alphanumeric() || byte == b'_'
-}
+pub const TYPES: [&[u8]; 2] = [b"num", b"word"];
 
 #[derive(Drop)]
 pub struct Draft {
@@ -48,15 +47,13 @@ impl Draft {
     // None, one or several, but at least one where it is needed.
     fn blanks(&mut self, needed: bool) -> Result<(), AllocError> {
         let count = match self.chance.below(8) {
-            0 => 0,
-            1 => 0,
+            0 | 1 => 0,
             2 => 3,
             _ => 1,
         };
-        let least = if needed { 1 } else { 0 };
-        for _ in 0..count.max(least) {
+        for _ in 0..count.max(usize::from(needed)) {
             let blank = if self.chance.one_in(8) {
-                self.chance.byte_of(b"\t\r")
+                self.chance.one_of(b"\t\r")
             } else {
                 b' '
             };
@@ -79,9 +76,15 @@ impl Draft {
         self.text.extend_from_slice(piece)
     }
 
+    // One of these pieces.
+    pub fn one_of(&mut self, pieces: &[&'static [u8]]) -> Result<(), AllocError> {
+        let piece = self.chance.one_of(pieces);
+        self.piece(piece)
+    }
+
     fn bytes_of(&mut self, count: usize, bytes: &[u8]) -> Result<(), AllocError> {
         for _ in 0..count {
-            let byte = self.chance.byte_of(bytes);
+            let byte = self.chance.one_of(bytes);
             self.text.push(byte)?;
         }
         Ok(())
@@ -89,8 +92,7 @@ impl Draft {
 
     pub fn name(&mut self) -> Result<(), AllocError> {
         if !self.chance.one_in(4) {
-            let name = self.chance.piece_of(&NAMES);
-            return self.piece(name);
+            return self.one_of(&NAMES);
         }
         self.blanks(true)?;
         self.bytes_of(1, LETTERS)?;
@@ -99,13 +101,13 @@ impl Draft {
     }
 
     pub fn number(&mut self) -> Result<(), AllocError> {
-        let piece = match self.chance.below(400) {
-            0 => self.chance.piece_of(&TOO_LARGE),
-            1..40 => self.chance.piece_of(&EDGES),
-            _ => b"",
+        let pieces: Option<&[&'static [u8]]> = match self.chance.below(400) {
+            0 => Some(&TOO_LARGE),
+            1..40 => Some(&EDGES),
+            _ => None,
         };
-        if !piece.is_empty() {
-            return self.piece(piece);
+        if let Some(pieces) = pieces {
+            return self.one_of(pieces);
         }
         self.blanks(true)?;
         let more = if self.chance.one_in(4) {
@@ -127,14 +129,13 @@ impl Draft {
         let plain = !self.chance.one_in(4);
         for _ in 0..len {
             let byte = if plain {
-                self.chance.byte_of(LETTERS)
+                self.chance.one_of(LETTERS)
             } else {
                 self.chance.byte()
             };
-            self.text.push(if byte == b'\'' || byte == b'\n' {
-                b'#'
-            } else {
-                byte
+            self.text.push(match byte {
+                b'\'' | b'\n' => b'#',
+                _ => byte,
             })?;
         }
         self.text.push(b'\'')?;

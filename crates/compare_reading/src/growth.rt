@@ -1,6 +1,10 @@
 // Expressions by chance. Parts that are still to be written wait on a stack, the next one last.
-use crate::draft::Draft;
-use std::alloc::{AllocError, Global};
+ghost use Rattle.std.specs.Prelude.{◌≡◌, ◌+◌, ◌<◌, ◌≤◌, OnOk, if◌then◌else◌};
+ghost use Rattle.std.specs.List.{sum_by};
+ghost use Rattle.compare_reading.specs.Growth.{turns_left, turns_of};
+
+use crate::draft::{Draft, TYPES};
+use std::alloc::AllocError;
 
 const OR: [&[u8]; 1] = [b"or"];
 
@@ -11,11 +15,6 @@ const COMPARISONS: [&[u8]; 4] = [b"==", b"!=", b"<", b"<="];
 const SUMS: [&[u8]; 2] = [b"+", b"-"];
 
 const PRODUCTS: [&[u8]; 3] = [b"*", b"/", b"%"];
-
-const TYPES: [&[u8]; 2] = [b"num", b"word"];
-
-// More turns than any expression takes.
-const TURNS: usize = 100_000;
 
 #[derive(Clone, Copy)]
 enum Part {
@@ -30,49 +29,55 @@ enum Part {
 }
 
 #[derive(Drop)]
-struct Growth {
+struct Growth<'d> {
+    draft: &'d mut Draft,
     waiting: Vec<Part>,
     // How many times more a part may become several.
     branches: usize,
 }
 
-impl Growth {
+impl Growth<'_> {
     // Whether a part becomes several.
-    fn branches_off(&mut self, draft: &mut Draft, one_in: usize) -> bool {
-        let more = self.branches > 0 && draft.chance.one_in(one_in);
-        if more {
-            self.branches = self.branches.saturating_sub(1);
+    fn branches_off(&mut self, one_in: usize) -> bool
+        ensures waiting { self.new.waiting.items ≡ self.old.waiting.items }
+        ensures branches { self.new.branches + (if result then 1 else 0) ≡ self.old.branches }
+    {
+        match self.branches.checked_sub(1) {
+            Some(left) if self.draft.chance.one_in(one_in) => {
+                self.branches = left;
+                true
+            }
+            _ => false,
         }
-        more
     }
 
     // Puts parts on the stack, the last one first.
-    fn wait(&mut self, parts: &[Part]) -> Result<(), AllocError> {
-        for part in parts.iter().rev() {
-            self.waiting.push(*part)?;
-        }
-        Ok(())
+    fn wait(&mut self, parts: &[Part]) -> Result<(), AllocError>
+        ensures waiting { OnOk result (sum_by turns_of self.new.waiting.items ≡ sum_by turns_of self.old.waiting.items + sum_by turns_of parts.now) }
+        ensures branches { self.new.branches ≡ self.old.branches }
+    {
+        self.waiting.extend(parts.iter().rev().copied())
     }
 
     // Operands with operators between them.
-    fn chain(
-        &mut self,
-        draft: &mut Draft,
-        operand: Part,
-        operators: &[&'static [u8]],
-    ) -> Result<(), AllocError> {
+    fn chain(&mut self, operand: Part, operators: &[&'static [u8]]) -> Result<(), AllocError>
+        requires { turns_of operand ≤ 7 }
+        ensures { OnOk result (turns_left self.new ≤ turns_left self.old + turns_of operand) }
+    {
         self.waiting.push(operand)?;
         for _ in 0..3 {
-            if self.branches_off(draft, 5) {
-                let operator = draft.chance.piece_of(operators);
+            if self.branches_off(5) {
+                let operator = self.draft.chance.one_of(operators);
                 self.wait(&[operand, Part::Piece(operator)])?;
             }
         }
         Ok(())
     }
 
-    fn expression(&mut self, draft: &mut Draft) -> Result<(), AllocError> {
-        if !self.branches_off(draft, 6) {
+    fn expression(&mut self) -> Result<(), AllocError>
+        ensures { OnOk result (turns_left self.new < turns_left self.old + 7) }
+    {
+        if !self.branches_off(6) {
             return self.wait(&[Part::Either]);
         }
         self.wait(&[
@@ -85,65 +90,70 @@ impl Growth {
         ])
     }
 
-    fn condition(&mut self, draft: &mut Draft) -> Result<(), AllocError> {
-        if self.branches_off(draft, 8) {
+    fn condition(&mut self) -> Result<(), AllocError>
+        ensures { OnOk result (turns_left self.new < turns_left self.old + 4) }
+    {
+        if self.branches_off(8) {
             return self.wait(&[Part::Piece(b"not"), Part::Condition]);
         }
-        if self.branches_off(draft, 4) {
-            let comparison = draft.chance.piece_of(&COMPARISONS);
+        if self.branches_off(4) {
+            let comparison = self.draft.chance.one_of(&COMPARISONS);
             return self.wait(&[Part::Sum, Part::Piece(comparison), Part::Sum]);
         }
         self.wait(&[Part::Sum])
     }
 
-    fn primary(&mut self, draft: &mut Draft) -> Result<(), AllocError> {
-        if self.branches_off(draft, 4) {
+    fn primary(&mut self) -> Result<(), AllocError>
+        ensures { OnOk result (turns_left self.new < turns_left self.old + 1) }
+    {
+        if self.branches_off(4) {
             self.wait(&[Part::Piece(b"("), Part::Expression, Part::Piece(b")")])?;
-            return if draft.chance.one_in(3) {
+            return if self.draft.chance.one_in(3) {
                 self.wait(&[Part::Piece(b"none")])
             } else {
                 Ok(())
             };
         }
-        match draft.chance.below(10) {
+        match self.draft.chance.below(10) {
             0 => {
-                draft.piece(b"none")?;
-                let kind = draft.chance.piece_of(&TYPES);
-                draft.piece(kind)
+                self.draft.piece(b"none")?;
+                self.draft.one_of(&TYPES)
             }
-            1..4 => draft.number(),
-            4..6 => draft.word(),
-            _ => draft.name(),
+            1..4 => self.draft.number(),
+            4..6 => self.draft.word(),
+            _ => self.draft.name(),
         }
     }
 
-    fn grow(&mut self, draft: &mut Draft, part: Part) -> Result<(), AllocError> {
+    fn grow(&mut self, part: Part) -> Result<(), AllocError>
+        ensures { OnOk result (turns_left self.new < turns_left self.old + turns_of part) }
+    {
         match part {
-            Part::Expression => self.expression(draft),
-            Part::Either => self.chain(draft, Part::Both, &OR),
-            Part::Both => self.chain(draft, Part::Condition, &AND),
-            Part::Condition => self.condition(draft),
-            Part::Sum => self.chain(draft, Part::Product, &SUMS),
-            Part::Product => self.chain(draft, Part::Primary, &PRODUCTS),
-            Part::Primary => self.primary(draft),
-            Part::Piece(piece) => draft.piece(piece),
+            Part::Expression => self.expression(),
+            Part::Either => self.chain(Part::Both, &OR),
+            Part::Both => self.chain(Part::Condition, &AND),
+            Part::Condition => self.condition(),
+            Part::Sum => self.chain(Part::Product, &SUMS),
+            Part::Product => self.chain(Part::Primary, &PRODUCTS),
+            Part::Primary => self.primary(),
+            Part::Piece(piece) => self.draft.piece(piece),
         }
     }
 }
 
-pub fn write_expression(heap: Global, draft: &mut Draft) -> Result<(), AllocError> {
-    let most = if draft.chance.one_in(20) { 200 } else { 12 };
-    let branches = draft.chance.below(most);
-    let mut growth = Growth {
-        waiting: Vec::new(heap),
-        branches,
-    };
-    growth.wait(&[Part::Expression])?;
-    for _ in 0..TURNS {
-        let Some(part) = growth.waiting.pop() else {
-            break;
+impl Draft {
+    pub fn expression(&mut self) -> Result<(), AllocError> {
+        let most = if self.chance.one_in(20) { 200 } else { 12 };
+        let branches = self.chance.below(most);
+        let waiting = vec![in *self.text.allocator(); Part::Expression]?;
+        let mut growth = Growth {
+            draft: self,
+            waiting,
+            branches,
         };
-        growth.grow(draft, part)?;
+        while let Some(part) = growth.waiting.pop() {
+            growth.grow(part)?;
+        }
+        Ok(())
     }
-    Ok(())
 }

@@ -7,11 +7,10 @@ mod questions;
 
 use chance::Chance;
 use draft::Draft;
-use questions::write_question;
 
 fn main(rt: HostRuntime) -> anyhow::Result<()> {
     let mut draft = Draft::new(rt.alloc(), Chance::new(1));
-    write_question(rt.alloc(), &mut draft)?;
+    draft.question()?;
     let text = String::from_utf8_lossy(rt.alloc(), draft.text.as_slice())?;
     println!(rt; "{text}")?;
     Ok(())

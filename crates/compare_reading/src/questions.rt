@@ -1,132 +1,129 @@
 // Questions by chance: well-formed but for a number or a word that is too large now and then.
-use crate::draft::Draft;
-use crate::growth::write_expression;
-use std::alloc::{AllocError, Global};
-
-const TYPES: [&[u8]; 2] = [b"num", b"word"];
+use crate::draft::{Draft, TYPES};
+use std::alloc::AllocError;
 
 const FUNCTIONS: [&[u8]; 4] = [b"sum", b"min", b"max", b"first"];
 
-fn write_table(draft: &mut Draft) -> Result<(), AllocError> {
-    draft.piece(b"table")?;
-    draft.name()?;
-    draft.number()?;
-    for _ in 0..draft.chance.below(6) {
-        draft.name()?;
-        let kind = draft.chance.piece_of(&TYPES);
-        draft.piece(kind)?;
-        draft.number()?;
-    }
-    Ok(())
-}
-
-fn write_names(draft: &mut Draft) -> Result<(), AllocError> {
-    for _ in 0..draft.chance.below(5) {
-        draft.name()?;
-    }
-    Ok(())
-}
-
-fn write_keys(draft: &mut Draft) -> Result<(), AllocError> {
-    for _ in 0..draft.chance.below(5) {
-        if draft.chance.one_in(3) {
-            draft.piece(b"-")?;
+impl Draft {
+    fn table(&mut self) -> Result<(), AllocError> {
+        self.piece(b"table")?;
+        self.name()?;
+        self.number()?;
+        for _ in 0..self.chance.below(6) {
+            self.name()?;
+            self.one_of(&TYPES)?;
+            self.number()?;
         }
-        draft.name()?;
+        Ok(())
     }
-    Ok(())
-}
 
-fn write_make(heap: Global, draft: &mut Draft) -> Result<(), AllocError> {
-    draft.piece(b"make")?;
-    draft.name()?;
-    draft.piece(b"=")?;
-    write_expression(heap, draft)
-}
-
-fn write_join(draft: &mut Draft) -> Result<(), AllocError> {
-    if draft.chance.one_in(2) {
-        draft.piece(b"left")?;
-    }
-    draft.piece(b"join")?;
-    draft.name()?;
-    draft.piece(b"on")?;
-    draft.name()?;
-    draft.piece(b"=")?;
-    draft.name()
-}
-
-fn write_aggregate(draft: &mut Draft) -> Result<(), AllocError> {
-    draft.name()?;
-    draft.piece(b"=")?;
-    if draft.chance.one_in(4) {
-        return draft.piece(b"count");
-    }
-    let function = draft.chance.piece_of(&FUNCTIONS);
-    draft.piece(function)?;
-    draft.name()
-}
-
-fn write_group(draft: &mut Draft) -> Result<(), AllocError> {
-    draft.piece(b"group")?;
-    write_names(draft)?;
-    draft.piece(b":")?;
-    write_aggregate(draft)?;
-    for _ in 0..draft.chance.below(4) {
-        draft.piece(b",")?;
-        write_aggregate(draft)?;
-    }
-    Ok(())
-}
-
-fn write_number(draft: &mut Draft, verb: &[u8]) -> Result<(), AllocError> {
-    draft.piece(verb)?;
-    draft.number()
-}
-
-fn write_step(heap: Global, draft: &mut Draft) -> Result<(), AllocError> {
-    match draft.chance.below(14) {
-        0 => {
-            draft.piece(b"pick")?;
-            write_names(draft)
+    fn names(&mut self) -> Result<(), AllocError> {
+        for _ in 0..self.chance.below(5) {
+            self.name()?;
         }
-        1..3 => write_join(draft),
-        3..5 => write_group(draft),
-        5 => {
-            draft.piece(b"order")?;
-            write_keys(draft)
-        }
-        6 => write_number(draft, b"take"),
-        7 => write_number(draft, b"skip"),
-        8 => {
-            draft.piece(b"unite")?;
-            draft.name()
-        }
-        9 => draft.piece(b"distinct"),
-        10..12 => write_make(heap, draft),
-        _ => {
-            draft.piece(b"keep")?;
-            write_expression(heap, draft)
-        }
+        Ok(())
     }
-}
 
-pub fn write_question(heap: Global, draft: &mut Draft) -> Result<(), AllocError> {
-    for _ in 0..draft.chance.below(5) {
-        draft.idle_line()?;
-        write_table(draft)?;
-        draft.end_line()?;
+    fn keys(&mut self) -> Result<(), AllocError> {
+        for _ in 0..self.chance.below(5) {
+            if self.chance.one_in(3) {
+                self.piece(b"-")?;
+            }
+            self.name()?;
+        }
+        Ok(())
     }
-    draft.piece(b"from")?;
-    draft.name()?;
-    draft.end_line()?;
-    for _ in 0..draft.chance.below(9) {
-        draft.idle_line()?;
-        write_step(heap, draft)?;
-        draft.end_line()?;
+
+    fn make(&mut self) -> Result<(), AllocError> {
+        self.piece(b"make")?;
+        self.name()?;
+        self.piece(b"=")?;
+        self.expression()
     }
-    if draft.chance.one_in(4) {
-        let _ = draft.text.pop();
+
+    fn join(&mut self) -> Result<(), AllocError> {
+        if self.chance.one_in(2) {
+            self.piece(b"left")?;
+        }
+        self.piece(b"join")?;
+        self.name()?;
+        self.piece(b"on")?;
+        self.name()?;
+        self.piece(b"=")?;
+        self.name()
     }
-    Ok(())
+
+    fn aggregate(&mut self) -> Result<(), AllocError> {
+        self.name()?;
+        self.piece(b"=")?;
+        if self.chance.one_in(4) {
+            return self.piece(b"count");
+        }
+        self.one_of(&FUNCTIONS)?;
+        self.name()
+    }
+
+    fn group(&mut self) -> Result<(), AllocError> {
+        self.piece(b"group")?;
+        self.names()?;
+        self.piece(b":")?;
+        self.aggregate()?;
+        for _ in 0..self.chance.below(4) {
+            self.piece(b",")?;
+            self.aggregate()?;
+        }
+        Ok(())
+    }
+
+    fn numbered(&mut self, verb: &[u8]) -> Result<(), AllocError> {
+        self.piece(verb)?;
+        self.number()
+    }
+
+    fn step(&mut self) -> Result<(), AllocError> {
+        match self.chance.below(14) {
+            0 => {
+                self.piece(b"pick")?;
+                self.names()
+            }
+            1..3 => self.join(),
+            3..5 => self.group(),
+            5 => {
+                self.piece(b"order")?;
+                self.keys()
+            }
+            6 => self.numbered(b"take"),
+            7 => self.numbered(b"skip"),
+            8 => {
+                self.piece(b"unite")?;
+                self.name()
+            }
+            9 => self.piece(b"distinct"),
+            10..12 => self.make(),
+            _ => {
+                self.piece(b"keep")?;
+                self.expression()
+            }
+        }
+    }
+
+    pub fn question(&mut self) -> Result<(), AllocError> {
+        for _ in 0..self.chance.below(5) {
+            self.idle_line()?;
+            self.table()?;
+            self.end_line()?;
+        }
+        self.piece(b"from")?;
+        self.name()?;
+        self.end_line()?;
+        for _ in 0..self.chance.below(9) {
+            self.idle_line()?;
+            self.step()?;
+            self.end_line()?;
+        }
+        if self.chance.one_in(4) {
+            let _ = self.text.pop();
+        }
+        Ok(())
+    }
 }

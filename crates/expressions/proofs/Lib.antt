@@ -1,4 +1,2 @@
-pub mod Stacked
 pub mod Rows
-pub mod Turns
 pub mod Means

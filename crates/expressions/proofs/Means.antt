@@ -53,9 +53,6 @@ pub result_fold : {A : Type 0} (m : Algebra ℕ A) (cs : List Col) (e : Expr) �
 result_fold m cs e = ap (top m.a_empty) (work_via (col_index cs) m (postfix e) [] ∙ (ap (λ c. run (via (col_index cs) m) c []) (sym (append-nil (postfix e))) ∙ works (via (col_index cs) m) e [] []))
 
 -- values
-at_nil : (i : ℕ) → value_at [] i ≡ null
-at_nil i = refl
-
 get_nil : (cs : List Col) (x : Bytes) → get cs [] x ≡ null
 get_nil [] x = refl
 get_nil (c ∷ cs) x = refl

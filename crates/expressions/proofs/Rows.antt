@@ -1,5 +1,5 @@
 -- Rows of cells.
-use Rattle.std.proofs.Common.{◌≡◌, ℕ, zero, suc, ◌<◌, ◌≤◌, List, [], ◌∷◌, length, get_or, refl, ap, arith}
+use Rattle.std.proofs.Common.{◌≡◌, ℕ, zero, suc, ◌<◌, ◌≤◌, List, [], ◌∷◌, length, get_or, refl, arith}
 use Rattle.meaning.specs.Values.{null}
 use Rattle.values.specs.Cells.{from_cell}
 use Rattle.expressions.specs.Algebra.{value_at}
@@ -14,7 +14,3 @@ pub at_past : (ws : List ℕ) (i : ℕ) → length ws ≤ i → value_at (row_of
 at_past [] i h = refl
 at_past (w ∷ ws) zero h = absurd (omega arith)
 at_past (w ∷ ws) (suc i) h = at_past ws i (omega arith)
-
-pub length_row : (ws : List ℕ) → length (row_of ws) ≡ length ws
-length_row [] = refl
-length_row (w ∷ ws) = ap suc (length_row ws)

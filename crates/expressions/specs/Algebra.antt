@@ -1,6 +1,7 @@
 -- What postfix code comes to over a stack, in any sense: of values, of types.
 use Rattle.std.specs.Prelude.{ℕ, zero, suc, List, [], ◌∷◌}
 use Rattle.std.proofs.Math.Option.{Option, some, none}
+use Rattle.lent_stack.specs.Stacked.{rest}
 use Rattle.meaning.specs.Base.{and_then}
 use Rattle.meaning.specs.Values.{Value, null, num, word, Ty, t_num, t_word, Op, Row, apply_op, op_type, expect_type, of_truth, not3, truth, is_null, if3}
 use Rattle.code.specs.Postfix.{Instr, i_num, i_word, i_null, i_col, i_op, i_not, i_none, i_if}
@@ -21,11 +22,6 @@ pub record Algebra (C A : Type 0) : Type 0 where
 abbrev pub top : {A : Type 0} → A → List A → A
 top d [] = d
 top d (x ∷ xs) = x
-
--- a stack without its top
-abbrev pub rest : {A : Type 0} → List A → List A
-rest [] = []
-rest (x ∷ xs) = xs
 
 -- the stack after an instruction
 abbrev pub run_one : {C A : Type 0} → Algebra C A → Instr C → List A → List A

@@ -1,3 +1,2 @@
 pub mod Algebra
 pub mod Words
-pub mod Views

@@ -1,5 +1,5 @@
 -- Rows and stacks in words, and what the code in words comes to.
-use Rattle.std.specs.Prelude.{◌≡◌, ℕ, zero, suc, Bool, true, false, cond, List, [], ◌∷◌, length, Some, None, Option as Given, ◌==◌, nat_lt, slice_index}
+use Rattle.std.specs.Prelude.{◌≡◌, ℕ, Bool, true, false, cond, List, length, Some, None, Option as Given, nat_lt}
 use Rattle.std.proofs.Math.Option.{Option, some, none}
 use Rattle.meaning.specs.Base.{each, nth}
 use Rattle.meaning.specs.Values.{Ty, t_num, t_word, Expr, Row, Col, eval, type_of}
@@ -14,15 +14,6 @@ use Rattle.code.specs.Words.{code_in}
 -- the row in words
 abbrev pub row_of : List ℕ → Row
 row_of ws = each from_cell ws
-
--- the first d words, the last one first
-abbrev pub stacked : List ℕ → ℕ → List ℕ
-stacked ws zero = []
-stacked ws (suc d) = slice_index ws d ∷ stacked ws d
-
--- the type that a word of a stack stands for, if any
-abbrev pub type_in : ℕ → Option Ty
-type_in w = cond (w == 0) (some t_num) (cond (w == 1) (some t_word) none)
 
 -- the code's type, if any, as one of the definitions
 abbrev pub maybe_type : Given Kind → Option Ty

@@ -1,9 +1,7 @@
 // The values of expressions on rows, and their types, by their postfix code.
 #![tactic(auto)]
 
+mod algebra;
 pub mod evaluate;
-mod pushing;
-pub mod stack;
-mod stack_of_types;
-mod stack_of_values;
+mod running;
 pub mod typing;

@@ -1,32 +1,65 @@
 -- A text cut into lines.
-use Rattle.std.proofs.Common.{◌≡◌, ℕ, zero, suc, ◌+◌, ◌<◌, ◌≤◌, Bool, true, false, cond, List, [], ◌∷◌, ◌++◌, length, get_or, take, drop, sym, refl, ap, ◌∙◌, arith, length-drop, length-take, eq-eqb, ne_eqb}
-use Rattle.std.proofs.lemmas.List.{drop_more, drop_all, take_more}
+use Rattle.std.proofs.Common.{◌≡◌, ℕ, zero, suc, ◌+◌, ◌-◌, ◌<◌, ◌≤◌, Bool, true, false, not, ltb, cond, List, [], ◌∷◌, ◌++◌, length, take, drop, Some, None, Option as Given, Bor, sym, refl, ap, ◌∙◌, arith, append_assoc, append-nil}
+use Rattle.std.specs.Option.{unwrap_or}
+use Rattle.std.specs.List.{prefix_len, position}
+use Rattle.std.proofs.lemmas.List.{take_rest}
+use Rattle.std.proofs.lemmas.Bool.{ltb-true, ltb-false}
+use Rattle.std.specs.Iterator.{Yields, SkipsThenYields}
 use Rattle.meaning.specs.Text.{lines_of}
 use Rattle.language_pieces.specs.Pieces.{cuts}
 use Rattle.language_pieces.specs.Pieces.{none_left}
-use Rattle.language.specs.Lines.{numbered, later, lines_left, left_in, line_at}
+use Rattle.language.specs.Lines.{is_newline, numbered, later, lines_left, left_in, line_at, NextLine}
 use Rattle.language.specs.declared.lines.Lines.{Lines}
 
-pub line_more : (s : List ℕ) (i : ℕ) → i < length s → ¬ (get_or s i 0 ≡ 10) → lines_of [] s ≡ lines_of (take i s) (drop i s) → lines_of [] s ≡ lines_of (take (i + 1) s) (drop (i + 1) s)
-line_more s i h n e = e ∙ (ap (lines_of (take i s)) (drop_more s i 0 h) ∙ (ap (λ b. cond b (take i s ∷ lines_of [] (drop (i + 1) s)) (lines_of (take i s ++ (get_or s i 0 ∷ [])) (drop (i + 1) s))) (ne_eqb (get_or s i 0) 10 n) ∙ ap (λ t. lines_of t (drop (i + 1) s)) (sym (take_more s i 0 h))))
+not_newline : ℕ → Bool
+not_newline byte = not (is_newline byte)
 
-pub line_cut : (s : List ℕ) (i : ℕ) → i < length s → get_or s i 0 ≡ 10 → lines_of [] s ≡ lines_of (take i s) (drop i s) → lines_of [] s ≡ take i s ∷ lines_of [] (drop (i + 1) s)
-line_cut s i h n e = e ∙ (ap (lines_of (take i s)) (drop_more s i 0 h) ∙ ap (λ b. cond b (take i s ∷ lines_of [] (drop (i + 1) s)) (lines_of (take i s ++ (get_or s i 0 ∷ [])) (drop (i + 1) s))) (eq-eqb (get_or s i 0) 10 n))
+-- how long the first line is
+first_size : List ℕ → ℕ
+first_size s = prefix_len not_newline s
 
-pub line_last : (s : List ℕ) (i : ℕ) → length s ≤ i → lines_of [] s ≡ lines_of (take i s) (drop i s) → lines_of [] s ≡ take i s ∷ []
-line_last s i h e = e ∙ ap (lines_of (take i s)) (drop_all i s h)
+cut_at : (begun s : List ℕ) → first_size s < length s → lines_of begun s ≡ (begun ++ take (first_size s) s) ∷ lines_of [] (drop (first_size s + 1) s)
+unfolding first_size not_newline
+cut_at begun [] h = absurd (omega arith)
+cut_at begun (b ∷ s) h = by (is_newline b) h (cut_at (begun ++ b ∷ []) s)
+  where
+    by : (t : Bool) → cond (not t) (1 + prefix_len not_newline s) 0 < length (b ∷ s) → (prefix_len not_newline s < length s → lines_of (begun ++ b ∷ []) s ≡ ((begun ++ b ∷ []) ++ take (prefix_len not_newline s) s) ∷ lines_of [] (drop (prefix_len not_newline s + 1) s)) → cond t (begun ∷ lines_of [] s) (lines_of (begun ++ b ∷ []) s) ≡ (begun ++ take (cond (not t) (1 + prefix_len not_newline s) 0) (b ∷ s)) ∷ lines_of [] (drop (cond (not t) (1 + prefix_len not_newline s) 0 + 1) (b ∷ s))
+    by true k f = ap (λ l. l ∷ lines_of [] s) (sym (append-nil begun))
+    by false k f =
+        let e : 1 + prefix_len not_newline s ≡ suc (prefix_len not_newline s) = omega arith in
+        let d : suc (prefix_len not_newline s) + 1 ≡ suc (prefix_len not_newline s + 1) = omega arith in
+        f (omega arith) ∙ (ap (λ l. l ∷ lines_of [] (drop (prefix_len not_newline s + 1) s)) (append_assoc begun (b ∷ []) (take (prefix_len not_newline s) s)) ∙ rw (e, d) refl)
 
-pub next_cut : (o : Bool) (rest line later : List ℕ) (n : ℕ) → o ≡ false → lines_of [] rest ≡ take n rest ∷ lines_of [] (drop (n + 1) rest) → line ≡ take n rest → later ≡ drop (n + 1) rest → cond o [] (lines_of [] rest) ≡ line ∷ cond o [] (lines_of [] later)
-next_cut o rest line later n e f g h = rw (e, g, h) f
+last_at : (begun s : List ℕ) → length s ≤ first_size s → lines_of begun s ≡ (begun ++ s) ∷ []
+unfolding first_size not_newline
+last_at begun [] h = ap (λ l. l ∷ []) (sym (append-nil begun))
+last_at begun (b ∷ s) h = by (is_newline b) h (last_at (begun ++ b ∷ []) s)
+  where
+    by : (t : Bool) → length (b ∷ s) ≤ cond (not t) (1 + prefix_len not_newline s) 0 → (length s ≤ prefix_len not_newline s → lines_of (begun ++ b ∷ []) s ≡ ((begun ++ b ∷ []) ++ s) ∷ []) → cond t (begun ∷ lines_of [] s) (lines_of (begun ++ b ∷ []) s) ≡ (begun ++ b ∷ s) ∷ []
+    by true k f = absurd (omega arith)
+    by false k f = f (omega arith) ∙ ap (λ l. l ∷ []) (append_assoc begun (b ∷ []) s)
 
-pub next_last : (o : Bool) (rest line : List ℕ) (n : ℕ) → o ≡ false → lines_of [] rest ≡ take n rest ∷ [] → line ≡ take n rest → cond o [] (lines_of [] rest) ≡ line ∷ []
-next_last o rest line n e f g = rw (e, g) f
+some_of : (b : Bool) (i n : ℕ) → Some n ≡ cond b (Some i) None → (b ≡ true) × (n ≡ i)
+some_of true i n e = let q : n ≡ i = cc in (refl, q)
+some_of false i n e = let z : ◌≡◌ {A = ℕ} 0 1 = cc in absurd (omega arith)
 
-pub short_front : (rest line : List ℕ) (n : ℕ) → line ≡ take n rest → length line ≤ length rest
-short_front rest line n e = rw e (simp length-take (omega arith))
+none_of : (b : Bool) (i : ℕ) → None ≡ cond b (Some i) None → b ≡ false
+none_of true i e = let z : ◌≡◌ {A = ℕ} 0 1 = cc in absurd (omega arith)
+none_of false i e = refl
 
-pub short_behind : (rest later : List ℕ) (n : ℕ) → later ≡ drop n rest → length later ≤ length rest
-short_behind rest later n e = rw e (simp length-drop (omega arith))
+newline_at : (s : List ℕ) (n : ℕ) → Some n ≡ position is_newline s → (first_size s < length s) × (n ≡ first_size s)
+unfolding first_size not_newline
+newline_at s n e = let q = some_of (ltb (first_size s) (length s)) (first_size s) n e in (ltb-true (first_size s) (length s) q.0, q.1)
+
+pub newline_within : (s : List ℕ) (n : ℕ) → Some n ≡ position is_newline s → n < length s
+newline_within s n e = let q = newline_at s n e in omega (arith, q.0, q.1)
+
+pub line_cut : (s : List ℕ) (n : ℕ) → Some n ≡ position is_newline s → lines_of [] s ≡ take n s ∷ lines_of [] (take (length s - (n + 1)) (drop (n + 1) s))
+line_cut s n e = let q = newline_at s n e in rw (take_rest s (n + 1), q.1) (cut_at [] s q.0)
+
+pub line_last : (s : List ℕ) → None ≡ position is_newline s → lines_of [] s ≡ s ∷ []
+unfolding first_size not_newline
+line_last s e = last_at [] s (ltb-false (first_size s) (length s) (none_of (ltb (first_size s) (length s)) (first_size s) e))
 
 fill_one : (n : ℕ) (s : List ℕ) (ss : List (List ℕ)) → none_left (cuts s) ≡ false → numbered later n (s ∷ ss) ≡ record { number = later n; bytes = s } ∷ numbered later (later n) ss
 fill_one n s ss e = rw e
@@ -48,23 +81,24 @@ unfolding left_in
 lines_over a e = ap (numbered later a.number) e
 
 -- the line behind so many others
-pub first_line : (ss : List (List ℕ)) (n : ℕ) (s : List ℕ) (more : List (List ℕ)) → drop n ss ≡ s ∷ more → line_at ss n ≡ s
+first_line : (ss : List (List ℕ)) (n : ℕ) (s : List ℕ) (more : List (List ℕ)) → drop n ss ≡ s ∷ more → line_at ss n ≡ s
 first_line [] zero s more e = absurd (omega (arith, ap length e))
 first_line [] (suc n) s more e = absurd (omega (arith, ap length e))
 first_line (x ∷ ss) zero s more e = let q : x ≡ s = cc in q
 first_line (x ∷ ss) (suc n) s more e = first_line ss n s more e
 
-pub no_line : (ss : List (List ℕ)) (k n : ℕ) → k ≤ n → drop k ss ≡ [] → line_at ss n ≡ []
+no_line : (ss : List (List ℕ)) (k n : ℕ) → k ≤ n → drop k ss ≡ [] → line_at ss n ≡ []
 no_line [] k n h e = refl
 no_line (x ∷ ss) zero n h e = absurd (omega (arith, ap length e))
 no_line (x ∷ ss) (suc k) zero h e = absurd (omega arith)
 no_line (x ∷ ss) (suc k) (suc n) h e = no_line ss k n (omega arith) e
 
-pub dropped_more : (ss ls ms : List (List ℕ)) (n : ℕ) (s : List ℕ) → ls ≡ drop n ss → ls ≡ s ∷ ms → ms ≡ drop (n + 1) ss
-dropped_more ss ls ms n s e f = let g : drop n ss ≡ s ∷ ms = sym e ∙ f in by ss n g
-  where
-    by : (ts : List (List ℕ)) (k : ℕ) → drop k ts ≡ s ∷ ms → ms ≡ drop (k + 1) ts
-    by [] zero h = absurd (omega (arith, ap length h))
-    by [] (suc k) h = absurd (omega (arith, ap length h))
-    by (x ∷ ts) zero h = let q : ts ≡ ms = cc in sym q
-    by (x ∷ ts) (suc k) h = let e : suc (k + 1) ≡ suc k + 1 = omega arith in by ts k h ∙ ap (λ i. drop i (x ∷ ts)) e
+-- lines that were taken, and those that are left
+taken : (a b : Lines) (xs : List (Bor (List ℕ))) → Yields NextLine a xs b → drop (length xs) (lines_left a) ≡ lines_left b
+taken a b [] e = ap lines_left e
+taken a b (x ∷ xs) (j, h, k) = ap (drop (suc (length xs))) h.0 ∙ taken j b xs k
+
+-- what nth gives is the line behind so many others, or there are fewer
+pub nth_line : (a b : Lines) (n : ℕ) (r : Given (Bor (List ℕ))) (none : Bor (List ℕ)) → SkipsThenYields NextLine a n r b → none.now ≡ [] → (unwrap_or r none).now ≡ line_at (lines_left a) n
+nth_line a b n None none (xs, (t, h, k), m) e = e ∙ sym (no_line (lines_left a) (length xs) n m (taken a t xs h ∙ k.0))
+nth_line a b n (Some v) none (xs, (t, h, k), m) e = sym (first_line (lines_left a) n v.now (lines_left b) (ap (λ i. drop i (lines_left a)) (sym m) ∙ (taken a t xs h ∙ k.0)))

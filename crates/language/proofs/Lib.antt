@@ -1,5 +1,4 @@
 pub mod Cutting
-pub mod Tests
 pub mod Heads
 pub mod Wholes
 pub mod Walked

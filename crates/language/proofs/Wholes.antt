@@ -77,7 +77,7 @@ one_from ds none cs f e = refl
 one_from ds (some n) cs f e = ap (λ x. and_then x (λ ss. some (record { decls = ds; from = n; steps = ss }))) e ∙ ap (λ d. and_then (steps_in f) (λ ss. some (record { decls = d; from = n; steps = ss }))) (sym (append-nil ds))
 
 one_line : (ds : List Decl) (p : Bytes) (l : List Bytes) (cs : List (List Bytes)) (f : List Line) (k : Line) → pieces k ≡ p ∷ l → step_lines cs ≡ steps_in f → ((d : Decl) → question_lines (ds ++ (d ∷ [])) cs ≡ whole_of (ds ++ (d ∷ [])) f) → question_lines ds ((p ∷ l) ∷ cs) ≡ whole_of ds (k ∷ f)
-unfolding head_in lone_name
+unfolding head_in
 one_line ds p l cs f k e q h = by (same_bytes p (codes "table")) (same_bytes p (codes "from")) ∙ sym (ap (λ y. with_parts ds (tables_by y) (and_then (head_in y) (λ k. map_or k (after_tables f) (λ n. some (record { name = n; lines = f }))))) e)
   where
     tables_by : List Bytes → Option (List Decl)
@@ -136,17 +136,14 @@ blames : (x : NotAQuestion) (t : List ℕ) (o : Option Line) → BlamesFirst x o
 blames x t none h = absurd h
 blames x t (some l) h = h
 
-pub heads_refused : (x : NotAQuestion) (t : List ℕ) (ls : List Line) → LinesOf t ls → after_tables ls ≡ none → BlamesFirst x (wrong_in ls) → Read (Err x) t
-heads_refused x t ls e f g = (no_from t ls e f, blames x t (wrong_line t) (subst (λ k. BlamesFirst x (wrong_in k)) e g))
-
-pub from_missing : (x : NotAQuestion) (t : List ℕ) (ls : List Line) → LinesOf t ls → after_tables ls ≡ none → wrong_in ls ≡ none → Blames x t none → Read (Err x) t
-from_missing x t ls e f g h = (no_from t ls e f, subst (Blames x t) (sym g ∙ ap wrong_in e) h)
+pub heads_refused : (x : NotAQuestion) (t : List ℕ) (ls : List Line) → LinesOf t ls → after_tables ls ≡ none → Blames x t (wrong_in ls) → Read (Err x) t
+heads_refused x t ls e f g = (no_from t ls e f, subst (λ k. Blames x t (wrong_in k)) e g)
 
 pub steps_refused : (x : NotAQuestion) (t : List ℕ) (ls ms : List Line) (n : Bytes) → LinesOf t ls → after_tables ls ≡ some (record { name = n; lines = ms }) → wrong_in ls ≡ wrong_step ms → steps_in ms ≡ none → BlamesFirst x (wrong_step ms) → Read (Err x) t
 steps_refused x t ls ms n e f w g h = (no_steps t ls ms n e f g, blames x t (wrong_line t) (subst (BlamesFirst x) (sym w ∙ ap wrong_in e) h))
 
-pub found : (t : List ℕ) (q : Question) → LinesOf t (left_in q.tables.lines) → after_tables (left_in q.tables.lines) ≡ some (record { name = q.from.now; lines = left_in q.steps.lines }) → is_some (steps_in (left_in q.steps.lines)) ≡ true → Read (Ok q) t
-found t q e f g =
+found_in : (t : List ℕ) (q : Question) → LinesOf t (left_in q.tables.lines) → after_tables (left_in q.tables.lines) ≡ some (record { name = q.from.now; lines = left_in q.steps.lines }) → is_some (steps_in (left_in q.steps.lines)) ≡ true → Read (Ok q) t
+found_in t q e f g =
     let ts = some_of (tables_in (left_in q.tables.lines)) (tables_right (left_in q.tables.lines) _ f) in
     let ss = some_of (steps_in (left_in q.steps.lines)) (sym g) in (
       record { decls = ts.0; from = q.from.now; steps = ss.0 },
@@ -155,6 +152,9 @@ found t q e f g =
           ∙ ap (λ o. and_then o (λ us. some (record { decls = us; from = q.from.now; steps = ss.0 }))) ts.1)),
       record { tables = ts.1; from = refl; steps = ss.1 },
     )
+
+pub found : (t : List ℕ) (q : Question) (a b : Lines) → q.tables.lines ≡ a → q.steps.lines ≡ b → LinesOf t (left_in a) → after_tables (left_in a) ≡ some (record { name = q.from.now; lines = left_in b }) → is_some (steps_in (left_in b)) ≡ true → Read (Ok q) t
+found t q a b i j e f g = found_in t q (rw i e) (rw (i, j) f) (rw j g)
 
 -- a refusal that is handed on
 pub handed_on : (r : Result Question NotAQuestion) (x : NotAQuestion) (t : List ℕ) → IsErrAnd r (λ y. y ≡ x) → Read (Err x) t → Read r t

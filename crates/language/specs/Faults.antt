@@ -1,7 +1,8 @@
 -- What the reason for a refusal says.
 use Rattle.std.specs.Prelude.{◌≡◌, ℕ, ◌<◌, Bool, true, false, not, ◌&&◌, ◌||◌, List, [], ◌∷◌, length, ◌==◌, nat_le}
+use Rattle.std.specs.List.{list_any, list_all}
 use Rattle.std.proofs.Math.Option.{none}
-use Rattle.meaning.specs.Base.{Bytes, among, all, any}
+use Rattle.meaning.specs.Base.{Bytes, among}
 use Rattle.meaning.specs.Text.{is_word_byte, is_digit, head_byte, head_piece, starts_with_digit, reserved_words, as_number}
 use Rattle.language_pieces.specs.Pieces.{cuts}
 use Rattle.language.specs.declared.faults.Reason.{Reason}
@@ -14,7 +15,7 @@ is_quote byte = byte == 39
 -- do bytes begin with a quote that is not closed
 abbrev pub open_quote : List ℕ → Bool
 open_quote [] = false
-open_quote (byte ∷ bytes) = is_quote byte && not (any is_quote bytes)
+open_quote (byte ∷ bytes) = is_quote byte && not (list_any is_quote bytes)
 
 -- has no piece that says something this byte outside quotes: it is no letter, digit, _ or quote, and none of ( ) * + , - / : < = %
 abbrev pub is_unused : ℕ → Bool
@@ -26,8 +27,8 @@ is_unused byte =
 abbrev pub TrueOfPiece : Reason → Bytes → Type 0
 TrueOfPiece OpenQuote p = ⊥
 TrueOfPiece LongWord p = (head_byte p ≡ 39) × (8 < length p)
-TrueOfPiece LargeNumber p = (all is_digit p ≡ true) × (as_number p ≡ none)
-TrueOfPiece NotANumber p = (starts_with_digit p ≡ true) × (all is_digit p ≡ false)
+TrueOfPiece LargeNumber p = (list_all is_digit p ≡ true) × (as_number p ≡ none)
+TrueOfPiece NotANumber p = (starts_with_digit p ≡ true) × (list_all is_digit p ≡ false)
 TrueOfPiece DigitFirst p = starts_with_digit p ≡ true
 TrueOfPiece (Reserved e) p = among p reserved_words ≡ true
 TrueOfPiece Stray p = is_unused (head_byte p) ≡ true

@@ -1,6 +1,7 @@
 -- A whole question, from its lines; and where a text that asks none goes wrong.
-use Rattle.std.specs.Prelude.{◌≡◌, ℕ, suc, ◌+◌, ◌-◌, ◌*◌, ◌≤◌, true, cond, List, [], ◌∷◌, length, take, drop, Some, None, Ok, Err, codes, Option as Given, Result, ◌==◌}
+use Rattle.std.specs.Prelude.{◌≡◌, ℕ, suc, ◌+◌, ◌-◌, ◌*◌, ◌≤◌, true, cond, List, [], ◌∷◌, length, take, drop, Some, None, Ok, Err, codes, Option as Given, Result}
 use Rattle.std.specs.Borrow.{Bor}
+use Rattle.std.specs.List.{count_by}
 use Rattle.std.proofs.Math.Option.{Option, some, none}
 use Rattle.meaning.specs.Base.{map_or, and_then, is_some, Bytes, same_bytes}
 use Rattle.meaning.specs.Steps.{Decl, Step, Question as Asked}
@@ -8,7 +9,7 @@ use Rattle.meaning.specs.Text.{head_piece, tail_pieces, lines_of, step_line, tab
 use Rattle.code.specs.Room.{code_words, mark_words}
 use Rattle.language_pieces.specs.Pieces.{cuts}
 use Rattle.language_statements.specs.Statements.{lone_name}
-use Rattle.language.specs.Lines.{Line, numbered, left_in}
+use Rattle.language.specs.Lines.{is_newline, Line, numbered, left_in}
 use Rattle.language.specs.Faults.{TrueOf}
 use Rattle.language.specs.declared.faults.NotAQuestion.{NotAQuestion}
 use Rattle.language.specs.declared.faults.Reason.TheVariants.{NoFrom}
@@ -67,8 +68,7 @@ wrong_line text = wrong_in (numbered suc 0 (lines_of [] text))
 
 -- so many bytes are newlines
 abbrev pub newlines : List ℕ → ℕ
-newlines [] = 0
-newlines (byte ∷ bytes) = cond (byte == 10) 1 0 + newlines bytes
+newlines s = count_by is_newline s
 
 -- the number of the last line; a newline at the end begins no other
 abbrev pub last_line : List ℕ → ℕ
@@ -101,11 +101,10 @@ abbrev pub Read : Result Question NotAQuestion → List ℕ → Type 0
 Read (Ok q) text = (a : Asked) × (reads text ≡ some a) × Asks q a
 Read (Err e) text = (reads text ≡ none) × Blames e text (wrong_line text)
 
--- what reading the lines up to from came to
-abbrev pub HeadsRead : Result (Given (Bor Bytes)) NotAQuestion → List Line → List Line → Type 0
-HeadsRead (Err e) before after = (after_tables before ≡ none) × BlamesFirst e (wrong_in before)
-HeadsRead (Ok None) before after = (after_tables before ≡ none) × (wrong_in before ≡ none)
-HeadsRead (Ok (Some x)) before after = (after_tables before ≡ some (record { name = x.now; lines = after })) × (wrong_in before ≡ wrong_step after)
+-- what reading the lines of a text up to from came to
+abbrev pub HeadsRead : Result (Bor Bytes) NotAQuestion → List ℕ → List Line → List Line → Type 0
+HeadsRead (Err e) text before after = (after_tables before ≡ none) × Blames e text (wrong_in before)
+HeadsRead (Ok x) text before after = (after_tables before ≡ some (record { name = x.now; lines = after })) × (wrong_in before ≡ wrong_step after)
 
 -- what reading a line before the steps came to
 abbrev pub HeadRead : {E : Type 0} → Result (Given (Bor Bytes)) E → Option (Option Bytes) → Type 0

@@ -1,87 +1,43 @@
-ghost use Rattle.std.specs.Prelude.{◌≡◌, length};
+ghost use Rattle.std.specs.Prelude.{◌≡◌, ◌≤◌, length, is_ok};
 ghost use Rattle.meaning.specs.Base.{is_some};
 ghost use Rattle.language_pieces.specs.Views.{ahead};
 ghost use Rattle.language_expressions.specs.Views.{whole_expression};
-ghost use Rattle.language_statements.specs.Items.{all_names, all_keys, all_columns, keys_to_colon, aggs_left};
-ghost use Rattle.language_statements.specs.Statements.{is_ok, step_of, Enough, EnoughFor};
+ghost use Rattle.language_statements.specs.Statements.{step_of, OfExpression};
+ghost use Rattle.language.specs.Questions.{reading_words};
 
 use code::code::Code;
 use language_expressions::reading::read_expression;
 use language_pieces::faults::Fault;
 use language_pieces::reader::Reader;
+use language_statements::lists::finish;
 use language_statements::views::*;
 
 // Whether an expression is left.
-fn check_expression(reader: Reader, stack: &mut [u64], words: &mut [u64]) -> Result<(), Fault>
-    requires { Enough (length stack.old) (length words.old) reader }
+// Whether the words are enough depends on the line that is read, so it is said at each call: no type's invariant can.
+fn check_expression(reader: Reader, words: &mut [u64]) -> Result<(), Fault>
+    requires { reading_words (length reader.line.now) ≤ length words.old }
     ensures { is_ok result ≡ is_some (whole_expression (ahead reader.entry)) }
 {
-    let mut code = Code::new(words);
+    let (stack, code) = words.split_at_mut(16 * reader.line.len() + 45);
+    let mut code = Code::new(code);
     read_expression(reader, stack, &mut code)
 }
 
-// Whether only names are left.
-fn check_names(mut names: Names) -> Result<(), Fault>
-    ensures { is_ok result ≡ is_some (all_names (ahead names.entry.reader)) }
-{
-    while let Some(name) = names.try_next()? {}
-    Ok(())
-}
-
-// Whether only columns to order by are left.
-fn check_sort_keys(mut keys: SortKeys) -> Result<(), Fault>
-    ensures { is_ok result ≡ is_some (all_keys (ahead keys.entry.reader)) }
-{
-    while let Some(key) = keys.try_next()? {}
-    Ok(())
-}
-
-// Whether only columns of a table are left.
-pub fn check_columns(mut columns: Columns) -> Result<(), Fault>
-    ensures { is_ok result ≡ is_some (all_columns (ahead columns.entry.reader)) }
-{
-    while let Some(column) = columns.try_next()? {}
-    Ok(())
-}
-
-// Whether only aggregates are left.
-fn check_aggregates(mut aggregates: Aggregates) -> Result<(), Fault>
-    ensures { is_ok result ≡ is_some (aggs_left aggregates.entry.more (ahead aggregates.entry.reader)) }
-{
-    while let Some(aggregate) = aggregates.try_next()? {}
-    Ok(())
-}
-
-// Whether names and a colon come first.
-fn check_group_keys(mut keys: GroupKeys) -> Result<(), Fault>
-    ensures { is_ok result ≡ is_some (keys_to_colon (ahead keys.entry.reader)) }
-{
-    while let Some(key) = keys.try_next()? {}
-    Ok(())
-}
-
 // Whether a step is whole: its lists and its expression.
-pub fn check_step(step: Step, stack: &mut [u64], words: &mut [u64]) -> Result<(), Fault>
-    requires { EnoughFor (length stack.old) (length words.old) step }
+pub fn check_step(step: Step, words: &mut [u64]) -> Result<(), Fault>
+    requires { OfExpression (λ r. reading_words (length r.line.now) ≤ length words.old) step }
     ensures { is_ok result ≡ is_some (step_of step.entry) }
 {
     match step {
-        Step::Keep(expression) => check_expression(expression, stack, words),
-        Step::Make(_, expression) => check_expression(expression, stack, words),
-        Step::Pick(names) => check_names(names),
-        Step::Join {
-            table: _,
-            on: _,
-            left: _,
-        } => Ok(()),
-        Step::Group(keys, aggregates) => {
-            check_group_keys(keys)?;
-            check_aggregates(aggregates)
+        Step::Keep(expression) | Step::Make(_, expression) => check_expression(expression, words),
+        Step::Pick(mut names) => finish(&mut names),
+        Step::Order(mut keys) => finish(&mut keys),
+        Step::Group(mut keys, mut aggregates) => {
+            finish(&mut keys)?;
+            finish(&mut aggregates)
         }
-        Step::Order(keys) => check_sort_keys(keys),
-        Step::Take(_) => Ok(()),
-        Step::Skip(_) => Ok(()),
-        Step::Unite(_) => Ok(()),
-        Step::Distinct => Ok(()),
+        Step::Join { .. } | Step::Take(_) | Step::Skip(_) | Step::Unite(_) | Step::Distinct => Ok(
+            (),
+        ),
     }
 }

@@ -1,7 +1,7 @@
 ghost use Rattle.std.specs.Prelude.{◌≡◌, ◌≤◌, [], ◌∷◌, length, drop};
-ghost use Rattle.meaning.specs.Base.{all, any};
+ghost use Rattle.std.specs.List.{list_all};
 ghost use Rattle.meaning.specs.Text.{is_digit, starts_with_digit};
-ghost use Rattle.language.specs.Faults.{TrueOf, TrueOfPiece, is_quote, is_unused, open_quote};
+ghost use Rattle.language.specs.Faults.{TrueOf, TrueOfPiece, is_unused, open_quote};
 
 use language_pieces::bytes::*;
 use language_pieces::faults::*;
@@ -10,7 +10,7 @@ use language_pieces::names::is_reserved;
 use language_pieces::reader::Reader;
 
 // What is wrong with a line.
-#[derive(Clone, Copy)]
+#[derive(Clone, Copy, Debug, PartialEq, Eq)]
 pub enum Reason {
     OpenQuote,
     // A word of data of more than seven bytes.
@@ -32,22 +32,12 @@ pub enum Reason {
 }
 
 // The line where a text stops being a question, counted from 1, the place in it, counted from 0, and why.
-#[derive(Clone, Copy)]
+#[derive(Clone, Copy, Debug, PartialEq, Eq)]
 pub struct NotAQuestion {
     pub line: usize,
+    // Beside NoFrom the place is 0, as read's contract says, so it is no Option.
     pub place: usize,
     pub reason: Reason,
-}
-
-fn has_quote(s: &[u8]) -> bool
-    ensures { result ≡ any is_quote s.now }
-{
-    for byte in s {
-        if *byte == b'\'' {
-            return true;
-        }
-    }
-    false
 }
 
 // Whether a quote stands first that isn't closed.
@@ -55,20 +45,15 @@ fn opens_quote(s: &[u8]) -> bool
     ensures { result ≡ open_quote s.now }
 {
     match s {
-        [b'\'', rest @ ..] => !has_quote(rest),
+        [b'\'', rest @ ..] => !rest.contains(&b'\''),
         _ => false,
     }
 }
 
 fn all_digits(piece: &[u8]) -> bool
-    ensures { result ≡ all is_digit piece.now }
+    ensures { result ≡ list_all is_digit piece.now }
 {
-    for byte in piece {
-        if !is_digit(*byte) {
-            return false;
-        }
-    }
-    true
+    piece.iter().all(|byte| is_digit(*byte))
 }
 
 fn starts_with_digit(piece: &[u8]) -> bool
@@ -84,26 +69,16 @@ fn starts_with_digit(piece: &[u8]) -> bool
 fn is_unused(byte: u8) -> bool
     ensures { result ≡ is_unused byte }
 {
-    !(is_word_byte(byte)
-        || byte >= b'\'' && byte <= b'-'
-        || byte == b'/'
-        || byte == b':'
-        || byte == b'<'
-        || byte == b'='
-        || byte == b'%')
+    !is_word_byte(byte) && !matches!(byte, b'\''..=b'-' | b'/' | b':' | b'<' | b'=' | b'%')
 }
 
 // Why a piece is no number.
 fn not_a_number(piece: &[u8]) -> Reason
     ensures { TrueOfPiece result piece.now }
 {
-    if let Some(_) = number_of(piece) {
-        return Reason::Expected(Expected::Number);
-    }
-    if !starts_with_digit(piece) {
-        return Reason::Expected(Expected::Number);
-    }
-    if all_digits(piece) {
+    if number_of(piece).is_some() || !starts_with_digit(piece) {
+        Reason::Expected(Expected::Number)
+    } else if all_digits(piece) {
         Reason::LargeNumber
     } else {
         Reason::NotANumber
@@ -146,8 +121,7 @@ fn why_not(expected: Expected, piece: &[u8]) -> Reason
     match piece {
         [byte, ..] if is_unused(*byte) => Reason::Stray,
         _ => match expected {
-            Expected::Name => not_a_name(expected, piece),
-            Expected::NameOrColon => not_a_name(expected, piece),
+            Expected::Name | Expected::NameOrColon => not_a_name(expected, piece),
             Expected::Number => not_a_number(piece),
             Expected::Operand => not_an_operand(piece),
             _ => Reason::Expected(expected),
@@ -163,7 +137,7 @@ impl NotAQuestion {
         ensures reason { TrueOf result.reason (drop result.place line.now) }
     {
         let place = fault.place.min(line.len());
-        let rest = behind(line, place);
+        let rest = &line[place..];
         let reason = if opens_quote(rest) {
             Reason::OpenQuote
         } else {

@@ -1,71 +1,58 @@
-ghost use Rattle.std.specs.Prelude.{◌≡◌, ◌+◌, ◌-◌, ◌<◌, ◌≤◌, false, [], ◌∷◌, length, take, drop, Some, None};
+ghost use Rattle.std.specs.Prelude.{◌≡◌, ◌-◌, ◌≤◌, [], ◌∷◌, length, Some, None};
+ghost use Rattle.std.specs.Iterator.{at_most};
+ghost use Rattle.std.specs.List.{position};
 ghost use Rattle.meaning.specs.Text.{lines_of};
-ghost use Rattle.language_pieces.specs.Pieces.{cuts, none_left};
-ghost use Rattle.language_pieces.specs.Views.{ahead};
-ghost use Rattle.language.specs.Lines.{later, lines_left, left_in, LineFound, line_at};
+ghost use Rattle.language.specs.Lines.{is_newline, lines_in, bytes_in, lines_left, bytes_left, left_in, NextLine, LineFound, line_at};
 
-use language_pieces::bytes::*;
 use language_pieces::reader::Reader;
 
-// The lines that are left of a text, and how many came before.
+// What is left of a text, none behind its last line, and how many lines came before.
+// Not std's `split`: views copy these lines as they stand, and say how many came before.
 #[derive(Clone, Copy)]
 pub struct Lines<'a> {
-    rest: &'a [u8],
-    over: bool,
+    rest: Option<&'a [u8]>,
     pub number: usize,
 }
 
-// How long the first line is.
-fn line_length(s: &[u8]) -> usize
-    ensures within { result ≤ length s.now }
-    ensures cut { result < length s.now → lines_of [] s.now ≡ take result s.now ∷ lines_of [] (drop (result + 1) s.now) }
-    ensures last { length s.now ≤ result → lines_of [] s.now ≡ take result s.now ∷ [] }
+fn newline_in(text: &[u8]) -> Option<usize>
+    ensures { result ≡ position is_newline text.now }
 {
-    let mut i = 0;
-    while i < s.len() && s[i] != b'\n' {
-        i += 1;
+    text.iter().position(|byte| *byte == b'\n')
+}
+
+// The first line, and the text behind the newline that ends it.
+#[tactic(auto, using(crate::proofs::Cutting::line_cut, crate::proofs::Cutting::line_last, crate::proofs::Cutting::newline_within))]
+fn split_line(text: &[u8]) -> (&[u8], Option<&[u8]>)
+    ensures lines { lines_of [] text.now ≡ result.0.now ∷ lines_in result.1 }
+    ensures line { length result.0.now ≤ length text.now }
+    ensures rest { bytes_in result.1 ≤ length text.now }
+{
+    match newline_in(text) {
+        Some(n) => (&text[..n], Some(&text[n + 1..])),
+        None => (text, None),
     }
-    i
 }
 
 impl<'a> Lines<'a> {
+    #[tactic(auto, unfolding(crate::specs::Lines::lines_left))]
     pub fn new(text: &'a [u8]) -> Lines<'a>
-        ensures text { result.rest.now ≡ text.now }
+        ensures text { result.rest ≡ Some text.entry }
         ensures number { result.number ≡ 0 }
         ensures lines { lines_left result ≡ lines_of [] text.now }
     {
         Lines {
-            rest: text,
-            over: false,
+            rest: Some(text),
             number: 0,
         }
     }
 
-    // The next line.
-    fn next_line(&mut self) -> Option<&'a [u8]>
-        ensures short { length self.new.rest.now ≤ length self.old.rest.now }
-        ensures line { elim result [ None ↦ lines_left self.old ≡ [] | Some s ↦ (lines_left self.old ≡ s.now ∷ lines_left self.new) × (self.new.number ≡ later self.old.number) × (length s.now ≤ length self.old.rest.now) ] }
-    {
-        if self.over {
-            return None;
-        }
-        let rest = self.rest;
-        self.number = self.number.saturating_add(1);
-        let n = line_length(rest);
-        if n < rest.len() {
-            self.rest = behind(rest, n + 1);
-            return Some(front(rest, n));
-        }
-        self.over = true;
-        Some(front(rest, n))
-    }
-
     // A reader of the next line that has pieces.
+    #[tactic(auto, using(crate::proofs::Cutting::line_passed, crate::proofs::Cutting::line_found, crate::proofs::Cutting::lines_over))]
     pub fn next_reader(&mut self) -> Option<Reader<'a>>
-        ensures short { length self.new.rest.now ≤ length self.old.rest.now }
+        ensures short { bytes_left self.new ≤ bytes_left self.old }
         ensures line { elim result [ None ↦ left_in self.old ≡ [] | Some s ↦ LineFound s self.old self.new ] }
     {
-        while let Some(line) = self.next_line() {
+        while let Some(line) = self.next() {
             let reader = Reader::new(line);
             if !reader.is_over() {
                 return Some(reader);
@@ -75,18 +62,27 @@ impl<'a> Lines<'a> {
     }
 }
 
-// The line of a number, counted from 1; empty where the text has fewer.
+impl<'a> Iterator for Lines<'a> {
+    type Item = &'a [u8];
+
+    ghost next_gives = { NextLine };
+
+    ghost remaining = { λ s. at_most (length (lines_left s)) };
+
+    #[tactic(auto, unfolding(crate::specs::Lines::lines_left))]
+    fn next(&mut self) -> Option<&'a [u8]> {
+        let (line, rest) = split_line(self.rest?);
+        self.rest = rest;
+        self.number = self.number.saturating_add(1);
+        Some(line)
+    }
+}
+
+// The line of a number, counted from 1; empty where the text has fewer, as `line_at` is, so it is no Option.
 pub fn line_of<'a>(text: &'a [u8], number: usize) -> &'a [u8]
     ensures { result.now ≡ line_at (lines_of [] text.now) (number - 1) }
 {
-    let mut lines = Lines::new(text);
-    for _ in 1..number {
-        let Some(_) = lines.next_line() else {
-            return b"";
-        };
-    }
-    match lines.next_line() {
-        None => b"",
-        Some(line) => line,
-    }
+    Lines::new(text)
+        .nth(number.saturating_sub(1))
+        .unwrap_or(b"")
 }

@@ -1,12 +1,12 @@
 -- The reading of an expression as a machine: a turn for each piece or frame.
-use Rattle.std.proofs.Common.{◌≡◌, ℕ, suc, ◌+◌, ◌*◌, ◌<◌, ◌≤◌, Bool, true, false, cond, List, [], ◌∷◌, length, codes, sym, refl, ap, ◌∙◌, arith}
+use Rattle.std.proofs.Common.{◌≡◌, ℕ, ◌+◌, ◌≤◌, Bool, true, false, cond, List, [], ◌∷◌, codes, sym, refl, ap, ◌∙◌, arith}
 use mathlib.Core.Option.{Option, some, none}
 use Rattle.meaning.specs.Base.{map_or, Bytes, same_bytes}
 use Rattle.meaning.specs.Values.{Op, Expr, e_null, e_op, e_not, e_none, e_if}
 use Rattle.meaning.specs.Text.{Parsed, then_read, expect, head_piece, tail_pieces, at_end, read_type, level_op, comparison_op}
-use Rattle.language_expressions.proofs.Bind.{Short, cond_ind, opt_ind, cond_same, opt_same, must_same, after_less}
-use Rattle.language_expressions.proofs.Grammar.{Parser, atom, type_short, atom_short, op_shorter, comparison_shorter}
-use Rattle.language_expressions.proofs.Free.{Any, Level, Compared, Chained, any_is, compared_is, primary_is, chained_is, level_1, level_2, level_3, level_4, level_5, level_6}
+use Rattle.language_expressions.proofs.Bind.{cond_same, must_same}
+use Rattle.language_expressions.proofs.Grammar.{Parser, atom}
+use Rattle.language_expressions.proofs.Free.{Any, Level, Chained, any_is, compared_is, primary_is, chained_is, level_1, level_2, level_3, level_4, level_5, level_6}
 use Rattle.language_expressions.specs.Machine.{chain_level, tighter}
 use Rattle.language_expressions.specs.declared.machine.Level.{Level as Lv}
 use Rattle.language_expressions.specs.declared.machine.Level.TheVariants.{If as l_if, Or as l_or, And as l_and, Not as l_not, Sum as l_sum, Product as l_product, Primary as l_primary}
@@ -117,14 +117,6 @@ out_cond : (b : Bool) (x y : Out) → comes_out (cond b x y) ≡ cond b (comes_o
 out_cond true x y = refl
 out_cond false x y = refl
 
-out_opt : {A : Type 0} (o : Option A) (c : Out) (f : A → Out) → comes_out (map_or o c f) ≡ map_or o (comes_out c) (λ x. comes_out (f x))
-out_opt none c f = refl
-out_opt (some x) c f = refl
-
-out_must : (p : Bytes) (l : List Bytes) (k : List Bytes → Out) → comes_out (must_out p l k) ≡ expect p l (λ l1. comes_out (k l1))
-out_must p [] k = refl
-out_must p (x ∷ l) k = out_cond (same_bytes p x) (k l) fail
-
 out_or : {A : Type 0} (r : Option (Parsed A)) (k : A → List Bytes → Out) → comes_out (or_fail r k) ≡ then_read r (λ a l. comes_out (k a l))
 out_or none k = refl
 out_or (some g) k = refl
@@ -137,10 +129,6 @@ with_with (some g) f k = refl
 with_cond : {C D : Type 0} (b : Bool) (x y : Option (Parsed C)) (k : C → List Bytes → Option D) → then_read (cond b x y) k ≡ cond b (then_read x k) (then_read y k)
 with_cond true x y k = refl
 with_cond false x y k = refl
-
-with_opt : {A C D : Type 0} (o : Option A) (c : Option (Parsed C)) (f : A → Option (Parsed C)) (k : C → List Bytes → Option D) → then_read (map_or o c f) k ≡ map_or o (then_read c k) (λ x. then_read (f x) k)
-with_opt none c f k = refl
-with_opt (some x) c f k = refl
 
 with_must_out : {C D : Type 0} (p : Bytes) (l : List Bytes) (f : List Bytes → Option (Parsed C)) (k : C → List Bytes → Option D) → then_read (expect p l f) k ≡ expect p l (λ l1. then_read (f l1) k)
 with_must_out p [] f k = refl
@@ -161,13 +149,7 @@ right_if l K = ap (λ r. then_read r k) (any_is l) ∙ (with_cond (same_bytes (h
     k e l1 = resume K e l1
 
 right_not : (l : List Bytes) (K : List Frame) → comes (want l_not l K) ≡ comes_out (step_want l_not l K)
-right_not l K = ap (λ r. then_read r k) (level_3 l ∙ compared_is l) ∙ (with_cond (same_bytes (head_piece l) (codes "not")) _ _ k ∙ (cond_same (same_bytes (head_piece l) (codes "not")) _ _ _ _
-    (λ e. with_with (Compared (tail_pieces l)) _ k ∙ ap (λ r. then_read r (λ a l1. resume K (e_not a) l1)) (sym (level_3 (tail_pieces l))))
-    (λ e. with_with (Level 4 l) _ k ∙ with_same (Level 4 l) _ _ (λ a l1. with_opt (comparison_op (head_piece l1)) _ _ k ∙ opt_same (comparison_op (head_piece l1)) _ _ _ _ (λ d. refl) (λ o d. with_with (Level 4 (tail_pieces l1)) _ k)))
-    ∙ sym (out_cond (same_bytes (head_piece l) (codes "not")) (go (want l_not (tail_pieces l) (f_not ∷ K))) (go (want l_sum l (f_cmp ∷ K))))))
-  where
-    k : Expr → List Bytes → Option Expr
-    k e l1 = resume K e l1
+right_not l K = grind (arith, level_3 l, compared_is l, level_3 (tail_pieces l))
 
 right_small : (l : List Bytes) (K : List Frame) → comes (want l_primary l K) ≡ comes_out (step_small l K)
 right_small [] K = ap (λ r. then_read r (λ e l1. resume K e l1)) (level_6 [] ∙ primary_is [])
@@ -187,11 +169,11 @@ right_small (p ∷ l) K = ap (λ r. then_read r k) (level_6 (p ∷ l) ∙ primar
 
 right_want : (w : Lv) (l : List Bytes) (K : List Frame) → comes (want w l K) ≡ comes_out (step_want w l K)
 right_want l_if l K = right_if l K
-right_want l_or l K = ap (λ r. then_read r (λ e l1. resume K e l1)) (level_1 l) ∙ with_with (Level 2 l) (Chained 1) (λ e l1. resume K e l1)
-right_want l_and l K = ap (λ r. then_read r (λ e l1. resume K e l1)) (level_2 l) ∙ with_with (Level 3 l) (Chained 2) (λ e l1. resume K e l1)
+right_want l_or l K = grind (arith, level_1 l)
+right_want l_and l K = grind (arith, level_2 l)
 right_want l_not l K = right_not l K
-right_want l_sum l K = ap (λ r. then_read r (λ e l1. resume K e l1)) (level_4 l) ∙ with_with (Level 5 l) (Chained 4) (λ e l1. resume K e l1)
-right_want l_product l K = ap (λ r. then_read r (λ e l1. resume K e l1)) (level_5 l) ∙ with_with (Level 6 l) (Chained 5) (λ e l1. resume K e l1)
+right_want l_sum l K = grind (arith, level_4 l)
+right_want l_product l K = grind (arith, level_5 l)
 right_want l_primary l K = right_small l K
 
 next_is : (c : Chain) (l : List Bytes) → Level (chain_level c + 1) l ≡ reader (tighter c) l
@@ -207,25 +189,24 @@ low Sums = omega arith
 low Products = omega arith
 
 right_on : (c : Chain) (e : Expr) (l : List Bytes) (K : List Frame) → comes (have e l (f_on c ∷ K)) ≡ comes_out (step_have (f_on c ∷ K) e l)
-right_on c e l K = ap (λ r. then_read r k) (chained_is (chain_level c) e l (low c)) ∙ (with_opt (level_op (chain_level c) (head_piece l)) _ _ k ∙ (opt_same (level_op (chain_level c) (head_piece l)) _ _ _ _ (λ d. refl)
-    (λ o d. with_with (Level (chain_level c + 1) (tail_pieces l)) _ k ∙ ap (λ r. then_read r (λ b l1. then_read (Chained (chain_level c) (e_op o e b) l1) k)) (next_is c (tail_pieces l)))
-    ∙ sym (out_opt (level_op (chain_level c) (head_piece l)) (go (have e l K)) (λ o. go (want (tighter c) (tail_pieces l) (f_op c o e ∷ K))))))
-  where
-    k : Expr → List Bytes → Option Expr
-    k a l1 = resume K a l1
+right_on c e l K = grind (arith, chained_is (chain_level c) e l (low c), next_is c (tail_pieces l))
 
 right_have : (K : List Frame) (e : Expr) (l : List Bytes) → resume K e l ≡ comes_out (step_have K e l)
 right_have [] e [] = refl
 right_have [] e (p ∷ l) = refl
 right_have (f_on c ∷ K) e l = right_on c e l K
 right_have (f_op c o a ∷ K) e l = refl
-right_have (f_cmp ∷ K) e l = sym (out_opt (comparison_op (head_piece l)) (go (have e l K)) (λ o. go (want l_sum (tail_pieces l) (f_cmp2 o e ∷ K))))
+right_have (f_cmp ∷ K) e l = grind arith
 right_have (f_cmp2 o a ∷ K) e l = refl
 right_have (f_not ∷ K) e l = refl
-right_have (f_rp ∷ K) e l = sym (out_must (codes ")") l (λ l1. go (have e l1 K)))
-right_have (f_rpn ∷ K) e l = sym (out_must (codes ")") l (λ l1. go (have (e_none e) l1 K)))
-right_have (f_if1 ∷ K) e l = sym (out_must (codes "then") l (λ l1. go (want l_if l1 (f_if2 e ∷ K))))
-right_have (f_if2 a ∷ K) e l = sym (out_must (codes "else") l (λ l1. go (want l_if l1 (f_if3 a e ∷ K))))
+right_have (f_rp ∷ K) e [] = refl
+right_have (f_rp ∷ K) e (p ∷ l) = grind arith
+right_have (f_rpn ∷ K) e [] = refl
+right_have (f_rpn ∷ K) e (p ∷ l) = grind arith
+right_have (f_if1 ∷ K) e [] = refl
+right_have (f_if1 ∷ K) e (p ∷ l) = grind arith
+right_have (f_if2 a ∷ K) e [] = refl
+right_have (f_if2 a ∷ K) e (p ∷ l) = grind arith
 right_have (f_if3 a b ∷ K) e l = refl
 
 pub step_right : (s : St) → comes s ≡ comes_out (step s)
@@ -241,79 +222,3 @@ weight l_not = 7
 weight l_sum = 5
 weight l_product = 3
 weight l_primary = 1
-
-abbrev pub heavy : Frame → ℕ
-heavy (f_on c) = 1
-heavy (f_op c o a) = 2
-heavy f_cmp = 1
-heavy (f_cmp2 o a) = 1
-heavy f_not = 1
-heavy f_rp = 1
-heavy f_rpn = 1
-heavy f_if1 = 1
-heavy (f_if2 a) = 1
-heavy (f_if3 a b) = 1
-
-abbrev pub size : List Frame → ℕ
-size [] = 0
-size (f ∷ K) = heavy f + size K
-
-abbrev pub left : St → ℕ
-left (want w l K) = 16 * length l + (weight w + size K)
-left (have e l K) = 16 * length l + size K
-
-abbrev pub Falls : ℕ → Out → Type 0
-Falls n (go s) = left s < n
-Falls n (done e) = Unit {0}
-Falls n fail = Unit {0}
-
-falls_must : (p : Bytes) (l : List Bytes) (k : List Bytes → Out) (n : ℕ) → ((l1 : List Bytes) → length l1 < length l → Falls n (k l1)) → Falls n (must_out p l k)
-falls_must p [] k n f = tt
-falls_must p (x ∷ l) k n f = cond_ind (Falls n) (same_bytes p x) (k l) fail (λ e. f l (omega arith)) (λ e. tt)
-
-falls_or : {A : Type 0} (r : Option (Parsed A)) (k : A → List Bytes → Out) (m n : ℕ) → Short m r → ((a : A) (l : List Bytes) → length l < m → Falls n (k a l)) → Falls n (or_fail r k)
-falls_or none k m n h f = tt
-falls_or (some g) k m n h f = f g.value_read g.rest h
-
-falls_small : (l : List Bytes) (K : List Frame) → Falls (left (want l_primary l K)) (step_small l K)
-falls_small [] K = tt
-falls_small (p ∷ l) K = cond_ind F (same_bytes p (codes "(")) _ _ (λ e. omega arith)
-    (λ e. cond_ind F (same_bytes p (codes "none")) _ _
-    (λ d. cond_ind F (same_bytes (head_piece l) (codes "(")) _ _ (λ c. let b : length (tail_pieces l) < length l = after_less l _ _ c in omega arith) (λ c. falls_or (read_type l) _ (length l) _ (type_short l) (λ t l1 b. omega arith)))
-    (λ d. falls_or (atom p l) _ (suc (length l)) _ (atom_short p l) (λ a l1 b. omega arith)))
-  where
-    F : Out → Type 0
-    F o = Falls (left (want l_primary (p ∷ l) K)) o
-
-falls_want : (w : Lv) (l : List Bytes) (K : List Frame) → Falls (left (want w l K)) (step_want w l K)
-falls_want l_if l K = cond_ind (Falls (left (want l_if l K))) (same_bytes (head_piece l) (codes "if")) _ _ (λ e. let b : length (tail_pieces l) < length l = after_less l _ _ e in omega arith) (λ e. omega arith)
-falls_want l_or l K = omega arith
-falls_want l_and l K = omega arith
-falls_want l_not l K = cond_ind (Falls (left (want l_not l K))) (same_bytes (head_piece l) (codes "not")) _ _ (λ e. let b : length (tail_pieces l) < length l = after_less l _ _ e in omega arith) (λ e. omega arith)
-falls_want l_sum l K = omega arith
-falls_want l_product l K = omega arith
-falls_want l_primary l K = falls_small l K
-
-tight : (c : Chain) → weight (tighter c) ≤ 9
-tight Ors = omega arith
-tight Ands = omega arith
-tight Sums = omega arith
-tight Products = omega arith
-
-falls_have : (K : List Frame) (e : Expr) (l : List Bytes) → Falls (left (have e l K)) (step_have K e l)
-falls_have [] e [] = tt
-falls_have [] e (p ∷ l) = tt
-falls_have (f_on c ∷ K) e l = opt_ind (Falls (left (have e l (f_on c ∷ K)))) (level_op (chain_level c) (head_piece l)) _ _ (λ d. omega arith) (λ o d. let b : length (tail_pieces l) < length l = op_shorter (chain_level c) l o d in omega (arith, tight c))
-falls_have (f_op c o a ∷ K) e l = omega arith
-falls_have (f_cmp ∷ K) e l = opt_ind (Falls (left (have e l (f_cmp ∷ K)))) (comparison_op (head_piece l)) _ _ (λ d. omega arith) (λ o d. let b : length (tail_pieces l) < length l = comparison_shorter l o d in omega arith)
-falls_have (f_cmp2 o a ∷ K) e l = omega arith
-falls_have (f_not ∷ K) e l = omega arith
-falls_have (f_rp ∷ K) e l = falls_must (codes ")") l _ _ (λ l1 b. omega arith)
-falls_have (f_rpn ∷ K) e l = falls_must (codes ")") l _ _ (λ l1 b. omega arith)
-falls_have (f_if1 ∷ K) e l = falls_must (codes "then") l _ _ (λ l1 b. omega arith)
-falls_have (f_if2 a ∷ K) e l = falls_must (codes "else") l _ _ (λ l1 b. omega arith)
-falls_have (f_if3 a b ∷ K) e l = omega arith
-
-pub step_falls : (s : St) → Falls (left s) (step s)
-step_falls (want w l K) = falls_want w l K
-step_falls (have e l K) = falls_have K e l

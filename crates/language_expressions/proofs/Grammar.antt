@@ -1,11 +1,10 @@
 -- The grammar without its bound: each reader's body over the readers that it calls; what is left is shorter; the bound is enough.
-use Rattle.std.proofs.Common.{◌≡◌, ℕ, zero, suc, ◌+◌, ◌-◌, ◌*◌, ◌<◌, ◌≤◌, cond, eqb, List, [], ◌∷◌, length, codes, refl, arith, eqb-true}
-use mathlib.Core.Option.{Option, some, none}
-use borrow.Author.Tests.{eqb-false}
+use Rattle.std.proofs.Common.{◌≡◌, ℕ, zero, suc, ◌+◌, ◌-◌, ◌*◌, ◌<◌, ◌≤◌, cond, eqb, List, [], ◌∷◌, length, codes, refl, arith}
+use mathlib.Core.Option.{Option, none}
 use Rattle.meaning.specs.Base.{map_or, Bytes, same_bytes}
-use Rattle.meaning.specs.Values.{Ty, Op, Expr, e_num, e_word, e_null, e_col, e_op, e_not, e_none, e_if}
+use Rattle.meaning.specs.Values.{Expr, e_num, e_word, e_null, e_col, e_op, e_not, e_none, e_if}
 use Rattle.meaning.specs.Text.{Parsed, parsed, then_read, expect, head_piece, tail_pieces, read_type, as_number, as_word, is_name, level_op, comparison_op, expression, at_level, comparison_at, op_chain, primary}
-use Rattle.language_expressions.proofs.Bind.{Short, cond_ind, cond_same, bind_short, must_short, bind_same, must_same, opt_same, opt_ind, after_less}
+use Rattle.language_expressions.proofs.Bind.{Short, cond_ind, bind_short, must_short, opt_ind, after_less}
 
 abbrev pub R : Type 0
 R = Option (Parsed Expr)
@@ -35,46 +34,12 @@ BSmall ex (piece ∷ line) =
     (cond (same_bytes piece (codes "none")) (cond (same_bytes (head_piece line) (codes "(")) (then_read (ex (tail_pieces line)) (λ a line1. expect (codes ")") line1 (λ line2. parsed (e_none a) line2))) (then_read (read_type line) (λ t line1. parsed (e_null t) line1)))
     (atom piece line))
 
--- they are the bodies
-is_expr : (f : ℕ) (line : List Bytes) → expression (suc f) line ≡ BExpr (expression f) (at_level f 1) line
-is_expr f line = refl
-
-is_lev : (f lev : ℕ) (line : List Bytes) → at_level (suc f) lev line ≡ BLev lev (primary f) (comparison_at f) (at_level f (lev + 1)) (op_chain f lev) line
-is_lev f lev line = refl
-
-is_cmp : (f : ℕ) (line : List Bytes) → comparison_at (suc f) line ≡ BCmp (comparison_at f) (at_level f 4) line
-is_cmp f line = refl
-
-is_on : (f lev : ℕ) (a : Expr) (line : List Bytes) → op_chain (suc f) lev a line ≡ BOn lev (at_level f (lev + 1)) (op_chain f lev) a line
-is_on f lev a line = refl
-
-is_small : (f : ℕ) (line : List Bytes) → primary (suc f) line ≡ BSmall (expression f) line
-is_small f [] = refl
-is_small f (x ∷ line) = refl
-
 -- what is left is shorter
 abbrev pub Shortens : Parser → Type 0
 Shortens r = (l : List Bytes) → Short (length l) (r l)
 
 abbrev pub Keeps : (Expr → Parser) → Type 0
 Keeps r = (a : Expr) (l : List Bytes) → Short (suc (length l)) (r a l)
-
-no_op : (lev : ℕ) → level_op lev [] ≡ none
-no_op lev = cond_ind P (eqb lev 1) _ _ (λ e. refl) (λ e. cond_ind P (eqb lev 2) _ _ (λ d. refl) (λ d. cond_ind P (eqb lev 4) _ _ (λ c. refl) (λ c. cond_ind P (eqb lev 5) _ _ (λ b. refl) (λ b. refl))))
-  where
-    P : Option Op → Type 0
-    P o = o ≡ none
-
-none_some : {A : Type 0} (o : Option A) (x : A) → o ≡ none → o ≡ some x → ⊥
-none_some o x p q = let z : ◌≡◌ {A = ℕ} 0 1 = cc in omega arith
-
-pub op_shorter : (lev : ℕ) (l : List Bytes) (o : Op) → level_op lev (head_piece l) ≡ some o → length (tail_pieces l) < length l
-op_shorter lev [] o e = absurd (none_some (level_op lev []) o (no_op lev) e)
-op_shorter lev (x ∷ l) o e = omega arith
-
-pub comparison_shorter : (l : List Bytes) (o : Op) → comparison_op (head_piece l) ≡ some o → length (tail_pieces l) < length l
-comparison_shorter [] o e = absurd (none_some none o refl e)
-comparison_shorter (x ∷ l) o e = omega arith
 
 bs_expr : (ex lv : Parser) (line : List Bytes) → Shortens ex → Short (length line) (lv line) → Short (length line) (BExpr ex lv line)
 bs_expr ex lv line h k = cond_ind (λ (o : R). Short (length line) o) (same_bytes (head_piece line) (codes "if")) _ _
@@ -83,28 +48,19 @@ bs_expr ex lv line h k = cond_ind (λ (o : R). Short (length line) o) (same_byte
     (λ e. k)
 
 bs_cmp : (cm l4 : Parser) (line : List Bytes) → Shortens cm → Shortens l4 → Short (length line) (BCmp cm l4 line)
-bs_cmp cm l4 line h k = cond_ind (λ (o : R). Short (length line) o) (same_bytes (head_piece line) (codes "not")) _ _
-    (λ e. let a0 : length (tail_pieces line) < length line = after_less line _ _ e in bind_short (cm (tail_pieces line)) _ (length (tail_pieces line)) (length line) (h (tail_pieces line)) (λ a l1 b1. omega arith))
-    (λ e. bind_short (l4 line) _ (length line) (length line) (k line) (λ a l1 b1. opt_ind (λ (o : R). Short (length line) o) (comparison_op (head_piece l1)) _ _ (λ d. b1) (λ o d. let a1 : length (tail_pieces l1) < length l1 = comparison_shorter l1 o d in bind_short (l4 (tail_pieces l1)) _ (length (tail_pieces l1)) (length line) (k (tail_pieces l1)) (λ b l2 b2. omega arith))))
+bs_cmp cm l4 [] h k = grind (arith, h, k)
+bs_cmp cm l4 (p ∷ line) h k = grind (arith, h, k)
 
 bs_on : (lev : ℕ) (nx : Parser) (on : Expr → Parser) (a : Expr) (line : List Bytes) → Shortens nx → Keeps on → Short (suc (length line)) (BOn lev nx on a line)
-bs_on lev nx on a line h k = opt_ind (λ (o : R). Short (suc (length line)) o) (level_op lev (head_piece line)) _ _ (λ d. omega arith)
-    (λ o d. let a1 : length (tail_pieces line) < length line = op_shorter lev line o d in bind_short (nx (tail_pieces line)) _ (length (tail_pieces line)) (suc (length line)) (h (tail_pieces line)) (λ b l1 b1. weaken (on (e_op o a b) l1) (suc (length l1)) (suc (length line)) (k (e_op o a b) l1) (omega arith)))
-  where
-    weaken : (r : R) (m n : ℕ) → Short m r → m ≤ n → Short n r
-    weaken none m n s q = tt
-    weaken (some g) m n s q = omega arith
+bs_on lev nx on a [] h k = grind (arith, h, k)
+bs_on lev nx on a (p ∷ line) h k = grind (arith, h, k)
 
 bs_lev : (lev : ℕ) (sm cm nx : Parser) (on : Expr → Parser) (line : List Bytes) → Shortens sm → Shortens cm → Shortens nx → Keeps on → Short (length line) (BLev lev sm cm nx on line)
-bs_lev lev sm cm nx on line h1 h2 h3 k = cond_ind (λ (o : R). Short (length line) o) (eqb lev 6) _ _ (λ e. h1 line) (λ e. cond_ind (λ (o : R). Short (length line) o) (eqb lev 3) _ _ (λ d. h2 line) (λ d. bind_short (nx line) _ (length line) (length line) (h3 line) (λ a l1 b1. weaken (on a l1) (suc (length l1)) (length line) (k a l1) (omega arith))))
-  where
-    weaken : (r : R) (m n : ℕ) → Short m r → m ≤ n → Short n r
-    weaken none m n s q = tt
-    weaken (some g) m n s q = omega arith
+bs_lev lev sm cm nx on line h1 h2 h3 k = grind (arith, h1 line, h2 line, h3 line, k)
 
 pub type_short : (l : List Bytes) → Short (length l) (read_type l)
 type_short [] = tt
-type_short (x ∷ l) = cond_ind (λ (o : Option (Parsed Ty)). Short (suc (length l)) o) (same_bytes x (codes "num")) _ _ (λ e. omega arith) (λ e. cond_ind (λ (o : Option (Parsed Ty)). Short (suc (length l)) o) (same_bytes x (codes "word")) _ _ (λ d. omega arith) (λ d. tt))
+type_short (x ∷ l) = grind arith
 
 pub atom_short : (p : Bytes) (l : List Bytes) → Short (suc (length l)) (atom p l)
 atom_short p l = opt_ind (λ (o : R). Short (suc (length l)) o) (as_number p) _ _ (λ e. opt_ind (λ (o : R). Short (suc (length l)) o) (as_word p) _ _ (λ d. cond_ind (λ (o : R). Short (suc (length l)) o) (is_name p) _ _ (λ c. omega arith) (λ c. tt)) (λ n d. omega arith)) (λ n e. omega arith)
@@ -152,32 +108,23 @@ abbrev pub Below : ℕ → Parser → Parser → Type 0
 Below n r s = (l : List Bytes) → length l < n → r l ≡ s l
 
 pub bc_expr : (ex ex' lv lv' : Parser) (line : List Bytes) → Shortens ex → Below (length line) ex ex' → lv line ≡ lv' line → BExpr ex lv line ≡ BExpr ex' lv' line
-bc_expr ex ex' lv lv' line h q k = cond_same (same_bytes (head_piece line) (codes "if")) _ _ _ _
-    (λ e. let a0 : length (tail_pieces line) < length line = after_less line _ _ e in
-    bind_same (ex (tail_pieces line)) (ex' (tail_pieces line)) _ _ (length (tail_pieces line)) (q (tail_pieces line) a0) (h (tail_pieces line)) (λ a l1 b1. must_same (codes "then") l1 _ _ (λ l2 b2. bind_same (ex l2) (ex' l2) _ _ (length l2) (q l2 (omega arith)) (h l2) (λ b l3 b3. must_same (codes "else") l3 _ _ (λ l4 b4. bind_same (ex l4) (ex' l4) _ _ (length l4) (q l4 (omega arith)) (h l4) (λ c l5 b5. refl))))))
-    (λ e. k)
+bc_expr ex ex' lv lv' [] h q k = grind (arith, h, q)
+bc_expr ex ex' lv lv' (p ∷ line) h q k = grind (arith, h, q)
 
 pub bc_cmp : (cm cm' l4 l4' : Parser) (line : List Bytes) → Shortens cm → Below (length line) cm cm' → Shortens l4 → Below (suc (length line)) l4 l4' → BCmp cm l4 line ≡ BCmp cm' l4' line
-bc_cmp cm cm' l4 l4' line h q k r = cond_same (same_bytes (head_piece line) (codes "not")) _ _ _ _
-    (λ e. bind_same (cm (tail_pieces line)) (cm' (tail_pieces line)) _ _ (length (tail_pieces line)) (q (tail_pieces line) (after_less line _ _ e)) (h (tail_pieces line)) (λ a l1 b1. refl))
-    (λ e. bind_same (l4 line) (l4' line) _ _ (length line) (r line (omega arith)) (k line) (λ a l1 b1. opt_same (comparison_op (head_piece l1)) _ _ _ _ (λ d. refl) (λ o d. let a1 : length (tail_pieces l1) < length l1 = comparison_shorter l1 o d in bind_same (l4 (tail_pieces l1)) (l4' (tail_pieces l1)) _ _ (length (tail_pieces l1)) (r (tail_pieces l1) (omega arith)) (k (tail_pieces l1)) (λ b l2 b2. refl))))
+bc_cmp cm cm' l4 l4' line h q k r = grind (arith, h, q, k, r)
 
 pub bc_on : (lev : ℕ) (nx nx' : Parser) (on on' : Expr → Parser) (a : Expr) (line : List Bytes) → Shortens nx → Below (length line) nx nx' → ((b : Expr) → Below (length line) (on b) (on' b)) → BOn lev nx on a line ≡ BOn lev nx' on' a line
-bc_on lev nx nx' on on' a line h q k = opt_same (level_op lev (head_piece line)) _ _ _ _ (λ d. refl)
-    (λ o d. let a1 : length (tail_pieces line) < length line = op_shorter lev line o d in bind_same (nx (tail_pieces line)) (nx' (tail_pieces line)) _ _ (length (tail_pieces line)) (q (tail_pieces line) a1) (h (tail_pieces line)) (λ b l1 b1. k (e_op o a b) l1 (omega arith)))
+bc_on lev nx nx' on on' a [] h q k = grind (arith, h, q, k)
+bc_on lev nx nx' on on' a (p ∷ line) h q k = grind (arith, h, q, k)
 
 pub bc_lev : (lev : ℕ) (sm sm' cm cm' nx nx' : Parser) (on on' : Expr → Parser) (line : List Bytes) → (lev ≡ 6 → sm line ≡ sm' line) → (lev ≡ 3 → cm line ≡ cm' line) → (¬ (lev ≡ 6) → ¬ (lev ≡ 3) → nx line ≡ nx' line) → Shortens nx → (¬ (lev ≡ 6) → (b : Expr) → Below (length line) (on b) (on' b)) → BLev lev sm cm nx on line ≡ BLev lev sm' cm' nx' on' line
-bc_lev lev sm sm' cm cm' nx nx' on on' line h1 h2 h3 k q = cond_same (eqb lev 6) _ _ _ _ (λ e. h1 (eqb-true lev 6 e)) (λ e. cond_same (eqb lev 3) _ _ _ _ (λ d. h2 (eqb-true lev 3 d)) (λ d. bind_same (nx line) (nx' line) _ _ (length line) (h3 (eqb-false lev 6 e) (eqb-false lev 3 d)) (k line) (λ a l1 b1. q (eqb-false lev 6 e) a l1 b1)))
+bc_lev lev sm sm' cm cm' nx nx' on on' line h1 h2 h3 k q = grind (arith, h1, h2, h3, k, q)
 
 pub bc_small : (ex ex' : Parser) (line : List Bytes) → Shortens ex → Below (length line) ex ex' → BSmall ex line ≡ BSmall ex' line
 bc_small ex ex' [] h q = refl
-bc_small ex ex' (p ∷ l) h q = cond_same (same_bytes p (codes "(")) _ _ _ _
-    (λ e. bind_same (ex l) (ex' l) _ _ (length l) (q l (omega arith)) (h l) (λ a l1 b1. refl))
-    (λ e. cond_same (same_bytes p (codes "none")) _ _ _ _
-    (λ d. cond_same (same_bytes (head_piece l) (codes "(")) _ _ _ _
-    (λ c. let a0 : length (tail_pieces l) < length l = after_less l _ _ c in bind_same (ex (tail_pieces l)) (ex' (tail_pieces l)) _ _ (length (tail_pieces l)) (q (tail_pieces l) (omega arith)) (h (tail_pieces l)) (λ a l1 b1. refl))
-    (λ c. refl))
-    (λ d. refl))
+bc_small ex ex' (p ∷ []) h q = grind (arith, q [])
+bc_small ex ex' (p ∷ (x ∷ l)) h q = grind (arith, q (x ∷ l), q l)
 
 -- enough is enough: what each reader wants for a line
 abbrev pub enough : ℕ → List Bytes → ℕ

@@ -1,5 +1,5 @@
-pub mod Stacked
 pub mod Naming
+pub mod Packed
 pub mod Bind
 pub mod Grammar
 pub mod Free

@@ -4,14 +4,19 @@ use mathlib.Core.Option.{Option, some, none}
 use borrow.Author.Tests.{clash}
 use Rattle.meaning.specs.Base.{each, map_or, Bytes}
 use Rattle.meaning.specs.Text.{head_piece, is_name}
-use Rattle.code.specs.Postfix.{i_num, i_word, i_col}
+use Rattle.code.specs.Postfix.{Instr, i_num, i_word, i_col, map_col}
 use Rattle.language_pieces.specs.Pieces.{cuts, name_at}
 use Rattle.language_pieces.specs.Views.{ahead}
+use Rattle.language_expressions.specs.Views.{named_code}
 use Rattle.language_pieces.specs.declared.reader.Reader.{Reader}
 
-pub each_append : {A C : Type 0} (f : A → C) (xs : List A) (x : A) → each f (xs ++ (x ∷ [])) ≡ each f xs ++ (f x ∷ [])
+each_append : {A C : Type 0} (f : A → C) (xs : List A) (x : A) → each f (xs ++ (x ∷ [])) ≡ each f xs ++ (f x ∷ [])
 each_append f [] x = refl
 each_append f (y ∷ xs) x = ap (λ t. f y ∷ t) (each_append f xs x)
+
+pub code_more : (line : List ℕ) (c : List (Instr ℕ)) (i : Instr ℕ) → named_code line (c ++ (i ∷ [])) ≡ named_code line c ++ (map_col (name_at line) i ∷ [])
+unfolding named_code
+code_more line c i = each_append (map_col (name_at line)) c i
 
 -- a name that a reader has before it is the piece that begins there
 pub name_there : (r : Reader) (place : ℕ) (p : Bytes) → p ≡ head_piece (ahead r) → is_name p ≡ true → cuts (drop place r.line.now) ≡ cuts (drop r.at r.line.now) → name_at r.line.now place ≡ p

@@ -1,21 +1,15 @@
 -- What a loop over turns keeps: a state of the machine that looks so and comes to what the definitions say.
-use Rattle.std.proofs.Common.{◌≡◌, ℕ, suc, ◌+◌, ◌*◌, ◌<◌, ◌≤◌, true, false, List, [], ◌∷◌, ◌++◌, length, codes, sym, refl, ap, ◌∙◌, arith, length-append}
+use Rattle.std.proofs.Common.{◌≡◌, ℕ, ◌+◌, ◌*◌, ◌<◌, ◌≤◌, List, [], ◌∷◌, ◌++◌, length, codes, sym, refl, ap, ◌∙◌, arith, length-append}
 use mathlib.Core.Option.{Option, some, none}
-use borrow.Author.Tests.{clash}
-use Rattle.meaning.specs.Base.{and_then, Bytes, same_bytes}
+use Rattle.meaning.specs.Base.{Bytes, same_bytes}
 use Rattle.meaning.specs.Values.{Expr, t_num, t_word}
-use Rattle.meaning.specs.Text.{read_to_end, expression, fuel, head_piece, tail_pieces, level_op, comparison_op}
+use Rattle.meaning.specs.Text.{read_to_end, expression, fuel, head_piece, tail_pieces}
 use Rattle.language_expressions.proofs.Bind.{cond_ind, opt_ind, after_less}
-use Rattle.language_expressions.proofs.Grammar.{op_shorter, comparison_shorter}
 use Rattle.language_expressions.proofs.Free.{Any}
-use Rattle.values.specs.Types.{op_of}
-use Rattle.values.specs.declared.types.Operator.{Operator}
-use Rattle.code.specs.Postfix.{Instr, i_null, i_op, i_not, i_none, i_if, postfix}
-use Rattle.language_expressions.specs.Machine.{operator, chain_operator, comparison, chain_level, tighter, State, wants, has, Outcome, goes_on, comes_to, fails, must, leaf, primary_turn, operand_turn, operator_turn, turn}
+use Rattle.code.specs.Postfix.{Instr, i_null, postfix}
+use Rattle.language_expressions.specs.Machine.{State, wants, has, Outcome, goes_on, comes_to, fails, leaf, primary_turn, operand_turn, operator_turn, turn}
 use Rattle.language_expressions.specs.declared.machine.Level.{Level as Lv}
 use Rattle.language_expressions.specs.declared.machine.Level.TheVariants.{If as l_if, Or as l_or, And as l_and, Not as l_not, Sum as l_sum, Product as l_product, Primary as l_primary}
-use Rattle.language_expressions.specs.declared.machine.Chain.{Chain}
-use Rattle.language_expressions.specs.declared.machine.Chain.TheVariants.{Ors, Ands, Sums, Products}
 use Rattle.language_expressions.specs.declared.machine.Mark.{Mark}
 use Rattle.language_expressions.specs.declared.machine.Mark.TheVariants.{Chain as m_chain, Applied as m_applied, Comparison as m_comparison, Compared as m_compared, Not as m_not, Paren as m_paren, NoneParen as m_none, Then as m_then, Else as m_else, End as m_end}
 use Rattle.language_expressions.proofs.Frames.{St, want, Out, go, done, fail, comes, comes_out, step, step_right, weight}
@@ -88,13 +82,6 @@ Spends n k (goes_on t) = (turns_left t < n) × (length (code_so_far t) + turns_l
 Spends n k (comes_to c) = Unit {0}
 Spends n k fails = Unit {0}
 
-follows : (l : List Bytes) (p : Bytes) → same_bytes [] p ≡ false → same_bytes (head_piece l) p ≡ true → length (tail_pieces l) < length l
-follows [] p n e = absurd (clash (sym n ∙ e))
-follows (y ∷ l) p n e = omega arith
-
-s_must : (p : Bytes) (l : List Bytes) (f : List Bytes → Outcome) (n k : ℕ) → same_bytes [] p ≡ false → ((l1 : List Bytes) → length l1 < length l → Spends n k (f l1)) → Spends n k (must p l f)
-s_must p l f n k o h = cond_ind (Spends n k) (same_bytes (head_piece l) p) (f (tail_pieces l)) fails (λ e. h (tail_pieces l) (follows l p o e)) (λ e. tt)
-
 more : (c : List (Instr Bytes)) (i : (Instr Bytes)) → length (c ++ (i ∷ [])) ≡ length c + 1
 more c i = length-append c (i ∷ [])
 
@@ -111,44 +98,21 @@ s_small (p ∷ l) M c = cond_ind S (same_bytes p (codes "(")) _ _ (λ e. (omega 
     S x = Spends (turns_left (wants l_primary (p ∷ l) M c)) (length c + turns_left (wants l_primary (p ∷ l) M c)) x
 
 s_want : (w : Lv) (l : List Bytes) (M : List Mark) (c : List (Instr Bytes)) → Spends (turns_left (wants w l M c)) (length c + turns_left (wants w l M c)) (operand_turn w l M c)
-s_want l_if l M c = cond_ind (Spends (turns_left (wants l_if l M c)) (length c + turns_left (wants l_if l M c))) (same_bytes (head_piece l) (codes "if")) _ _ (λ e. let b : length (tail_pieces l) < length l = after_less l _ _ e in (omega arith, omega arith)) (λ e. (omega arith, omega arith))
-s_want l_or l M c = (omega arith, omega arith)
-s_want l_and l M c = (omega arith, omega arith)
-s_want l_not l M c = cond_ind (Spends (turns_left (wants l_not l M c)) (length c + turns_left (wants l_not l M c))) (same_bytes (head_piece l) (codes "not")) _ _ (λ e. let b : length (tail_pieces l) < length l = after_less l _ _ e in (omega arith, omega arith)) (λ e. (omega arith, omega arith))
-s_want l_sum l M c = (omega arith, omega arith)
-s_want l_product l M c = (omega arith, omega arith)
+s_want l_if [] M c = grind arith
+s_want l_if (p ∷ l) M c = grind arith
+s_want l_or l M c = grind arith
+s_want l_and l M c = grind arith
+s_want l_not [] M c = grind arith
+s_want l_not (p ∷ l) M c = grind arith
+s_want l_sum l M c = grind arith
+s_want l_product l M c = grind arith
 s_want l_primary l M c = s_small l M c
-
--- where an operator stands, there is a piece
-some_of : {A C : Type 0} (o : Option A) (f : A → C) (y : C) (P : Type 0) → ((x : A) → o ≡ some x → P) → and_then o (λ x. some (f x)) ≡ some y → P
-some_of none f y P h e = never (cc)
-some_of (some x) f y P h e = h x refl
-
-at_less : (h : Chain) (l : List Bytes) (o : Operator) → chain_operator h (head_piece l) ≡ some o → length (tail_pieces l) < length l
-at_less h l o e = some_of (level_op (chain_level h) (head_piece l)) operator o _ (λ x d. op_shorter (chain_level h) l x d) e
-
-compared_less : (l : List Bytes) (o : Operator) → comparison (head_piece l) ≡ some o → length (tail_pieces l) < length l
-compared_less l o e = some_of (comparison_op (head_piece l)) operator o _ (λ x d. comparison_shorter l x d) e
-
-tight : (c : Chain) → weight (tighter c) ≤ 9
-tight Ors = omega arith
-tight Ands = omega arith
-tight Sums = omega arith
-tight Products = omega arith
 
 s_got : (M : List Mark) (l : List Bytes) (c : List (Instr Bytes)) → Spends (turns_left (has l M c)) (length c + turns_left (has l M c)) (operator_turn M l c)
 s_got [] [] c = tt
 s_got [] (p ∷ l) c = tt
-s_got (m_chain h ∷ M) l c = opt_ind (Spends (turns_left (has l (m_chain h ∷ M) c)) (length c + turns_left (has l (m_chain h ∷ M) c))) (chain_operator h (head_piece l)) _ _ (λ d. (omega arith, omega arith)) (λ o d. let b : length (tail_pieces l) < length l = at_less h l o d in (omega (arith, tight h), omega (arith, tight h)))
-s_got (m_applied h o ∷ M) l c = (omega arith, omega (arith, more c (i_op (op_of o))))
-s_got (m_comparison ∷ M) l c = opt_ind (Spends (turns_left (has l (m_comparison ∷ M) c)) (length c + turns_left (has l (m_comparison ∷ M) c))) (comparison (head_piece l)) _ _ (λ d. (omega arith, omega arith)) (λ o d. let b : length (tail_pieces l) < length l = compared_less l o d in (omega arith, omega arith))
-s_got (m_compared o ∷ M) l c = (omega arith, omega (arith, more c (i_op (op_of o))))
-s_got (m_not ∷ M) l c = (omega arith, omega (arith, more c i_not))
-s_got (m_paren ∷ M) l c = s_must (codes ")") l (λ l1. goes_on (has l1 M c)) _ _ refl (λ l1 b. (omega arith, omega arith))
-s_got (m_none ∷ M) l c = s_must (codes ")") l (λ l1. goes_on (has l1 M (c ++ (i_none ∷ [])))) _ _ refl (λ l1 b. (omega arith, omega (arith, more c i_none)))
-s_got (m_then ∷ M) l c = s_must (codes "then") l (λ l1. goes_on (wants l_if l1 (m_else ∷ M) c)) _ _ refl (λ l1 b. (omega arith, omega arith))
-s_got (m_else ∷ M) l c = s_must (codes "else") l (λ l1. goes_on (wants l_if l1 (m_end ∷ M) c)) _ _ refl (λ l1 b. (omega arith, omega arith))
-s_got (m_end ∷ M) l c = (omega arith, omega (arith, more c i_if))
+s_got (m ∷ M) [] c = grind (arith, length-append)
+s_got (m ∷ M) (p ∷ l) c = grind (arith, length-append)
 
 spends : (t : State) → Spends (turns_left t) (length (code_so_far t) + turns_left t) (turn t)
 spends (wants w l M c) = s_want w l M c
@@ -162,30 +126,13 @@ turn_room t u e = (mathlib.Core.Path.subst (λ x. Spends (turns_left t) (length 
 
 pub deep : (M : List Mark) → length M ≤ marks_weight M
 deep [] = omega arith
-deep (m ∷ M) = omega (arith, deep M, one m)
-  where
-    one : (k : Mark) → 1 ≤ mark_weight k
-    one (m_chain c) = omega arith
-    one (m_applied c o) = omega arith
-    one m_comparison = omega arith
-    one (m_compared o) = omega arith
-    one m_not = omega arith
-    one m_paren = omega arith
-    one m_none = omega arith
-    one m_then = omega arith
-    one m_else = omega arith
-    one m_end = omega arith
+deep (m ∷ M) = grind (arith, deep M)
 
 -- for a loop: what comes next stands, and there is room
 abbrev pub Holds : List (Instr Bytes) → ℕ → Option Expr → Outcome → Type 0
 Holds before b to (goes_on t) = Stands before t to × (length (code_so_far t) + turns_left t ≤ length before + b) × (turns_left t ≤ b)
 Holds before b to (comes_to c) = (e : Expr) × (to ≡ some e) × (c ≡ before ++ postfix e)
 Holds before b to fails = to ≡ none
-
-abbrev pub rest1 : Outcome → ℕ
-rest1 (goes_on t) = suc (turns_left t)
-rest1 (comes_to c) = 0
-rest1 fails = 0
 
 pub holds_more : (before : List (Instr Bytes)) (b : ℕ) (to : Option Expr) (t : State) → Holds before b to (goes_on t) → Holds before b to (turn t)
 holds_more before b to t h = by (turn t) refl
@@ -194,14 +141,6 @@ holds_more before b to t h = by (turn t) refl
     by (goes_on u) e = (stands_on before t u to h.0 e, omega (arith, turn_room t u e, h.1), omega (arith, turn_falls t u e, h.2))
     by (comes_to c) e = stands_whole before t c to h.0 e
     by fails e = stands_bad before t to h.0 e
-
-pub rest_falls : (t : State) → rest1 (turn t) < rest1 (goes_on t)
-rest_falls t = by (turn t) refl
-  where
-    by : (x : Outcome) → turn t ≡ x → rest1 x < suc (turns_left t)
-    by (goes_on u) e = omega (arith, turn_falls t u e)
-    by (comes_to c) e = omega arith
-    by fails e = omega arith
 
 pub holds_start : (before : List (Instr Bytes)) (line : List Bytes) → Holds before (16 * length line + 12) (read_to_end (expression (fuel line) line)) (goes_on (wants l_if line [] before))
 holds_start before line = (stands_start before line, omega arith, omega arith)

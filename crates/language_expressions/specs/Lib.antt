@@ -1,3 +1,4 @@
 pub mod Machine
 pub mod Marks
+pub mod Turns
 pub mod Views

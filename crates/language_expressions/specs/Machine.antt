@@ -17,8 +17,6 @@ use Rattle.language_expressions.specs.declared.machine.Chain.{Chain}
 use Rattle.language_expressions.specs.declared.machine.Chain.TheVariants.{Ors, Ands, Sums, Products}
 use Rattle.language_expressions.specs.declared.machine.Mark.{Mark}
 use Rattle.language_expressions.specs.declared.machine.Mark.TheVariants.{Chain as m_chain, Applied as m_applied, Comparison as m_comparison, Compared as m_compared, Not as m_not, Paren as m_paren, NoneParen as m_none, Then as m_then, Else as m_else, End as m_end}
-use Rattle.language_expressions.specs.declared.machine.Turn.{Turn}
-use Rattle.language_expressions.specs.declared.machine.Turn.TheVariants.{Operand, Operator as OperatorNext, Done, Bad}
 
 -- the number of a chain's level in the definitions
 abbrev pub chain_level : Chain → ℕ
@@ -127,13 +125,6 @@ operator_turn (m_end ∷ M) l c = goes_on (has l M (c ++ (i_if ∷ [])))
 abbrev pub turn : State → Outcome
 turn (wants w l M c) = operand_turn w l M c
 turn (has l M c) = operator_turn M l c
-
--- what the code's turn says, with what the machine then holds
-abbrev pub outcome : Turn → List Bytes → List Mark → List (Instr Bytes) → Outcome
-outcome (Operand w) l M c = goes_on (wants w l M c)
-outcome OperatorNext l M c = goes_on (has l M c)
-outcome Done l M c = comes_to c
-outcome (Bad e) l M c = fails
 
 -- an option of the code as one of the definitions
 abbrev pub given : {A : Type 0} → Given A → Option A

@@ -1,4 +1,4 @@
-ghost use Rattle.std.specs.Prelude.{◌≡◌, ℕ, ◌+◌, ◌*◌, ◌≤◌, List, [], ◌∷◌, ◌++◌, length, Some, None};
+ghost use Rattle.std.specs.Prelude.{◌≡◌, Some, None};
 ghost use Rattle.std.proofs.Math.Option.{some, none};
 ghost use Rattle.meaning.specs.Text.{head_piece};
 ghost use Rattle.code.specs.Postfix.{map_col};
@@ -6,16 +6,14 @@ ghost use Rattle.code.specs.Words.{instr_of};
 ghost use Rattle.language_pieces.specs.Pieces.{name_at};
 ghost use Rattle.language_pieces.specs.Views.{ahead};
 ghost use Rattle.language_expressions.specs.Machine.{leaf};
-ghost use Rattle.language_expressions.specs.Views.{named_code};
 
-use code::code::Code;
 use code::instruction::Instruction;
 use language_pieces::literals::*;
 use language_pieces::names::is_name;
 use language_pieces::reader::Reader;
 
 // The instruction of the next piece, if it is an operand by itself; a column is the place where its name begins.
-pub fn read_leaf(reader: &Reader) -> Option<Instruction>
+pub fn leaf(reader: &Reader) -> Option<Instruction>
     ensures { elim result [ None ↦ leaf (head_piece (ahead reader.now)) ≡ none | Some i ↦ leaf (head_piece (ahead reader.now)) ≡ some (map_col (name_at reader.now.line.now) (instr_of i)) ] }
 {
     let piece = reader.piece();
@@ -29,14 +27,4 @@ pub fn read_leaf(reader: &Reader) -> Option<Instruction>
         return Some(Instruction::Column(reader.place() as u64));
     }
     None
-}
-
-// One instruction more.
-pub fn emit(code: &mut Code, instruction: Instruction)
-    requires { 2 * code.old.count + 2 ≤ length code.old.words.now }
-    ensures count { code.new.count ≡ code.old.count + 1 }
-    ensures length { length code.new.words.now ≡ length code.old.words.now }
-    ensures code { (line : List ℕ) → named_code line code.new ≡ named_code line code.old ++ (map_col (name_at line) (instr_of instruction) ∷ []) }
-{
-    code.push(instruction);
 }

@@ -4,7 +4,5 @@
 mod leaves;
 mod machine;
 mod marks;
-mod operands;
-mod operators;
 pub mod reading;
-mod stack;
+mod turns;

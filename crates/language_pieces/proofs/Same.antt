@@ -1,21 +1,12 @@
 -- Bytes that are the same.
-use Rattle.std.proofs.Common.{◌≡◌, Bool, true, false, ◌&&◌, eqb, [], ◌∷◌, Decides, sym, refl, ap}
+use Rattle.std.proofs.Common.{◌≡◌, ◌≢◌, ℕ, suc, length, get_or, ne_eqb, false, ◌&&◌, eqb, List, [], ◌∷◌, refl, ap, arith, rules, Decides}
+use Rattle.std.specs.List.{list_any}
 use lib.Pointwise.{pointwise}
-use Rattle.std.proofs.lemmas.Slice.Eq.{IsBytesEq, compares_Decides}
-use Rattle.meaning.specs.Base.{Bytes, same_bytes}
-
-compares : IsBytesEq same_bytes
-compares = record { empty = refl; shorter = λ y ys. refl; longer = λ x xs. refl; heads = λ x y xs ys. refl }
+use Rattle.std.proofs.lemmas.Slice.Eq.{compares_Decides}
+use Rattle.meaning.specs.Base.{Bytes, same_bytes, among}
 
 pub same_decides : (a b : Bytes) → Decides (same_bytes a b) (a ≡ b)
-same_decides a b = compares_Decides same_bytes compares a b
-
--- two tests that decide the same agree
-one_test : {P : Type 0} (r s : Bool) → Decides r P → Decides s P → r ≡ s
-one_test true true d e = refl
-one_test true false d e = sym (e.1 (d.0 refl))
-one_test false true d e = d.1 (e.0 refl)
-one_test false false d e = refl
+same_decides a b = compares_Decides same_bytes (search rules) a b
 
 pub pointwise_same : (a b : Bytes) → pointwise eqb a b ≡ same_bytes a b
 pointwise_same [] [] = refl
@@ -24,4 +15,24 @@ pointwise_same (x ∷ xs) [] = refl
 pointwise_same (x ∷ xs) (y ∷ ys) = ap (λ t. eqb x y && t) (pointwise_same xs ys)
 
 pub same_turned : (a b : Bytes) → same_bytes a b ≡ same_bytes b a
-same_turned a b = one_test (same_bytes a b) (same_bytes b a) (same_decides a b) ((λ t. sym ((same_decides b a).0 t)), (λ e. (same_decides b a).1 (sym e)))
+same_turned [] [] = refl
+same_turned [] (y ∷ ys) = refl
+same_turned (x ∷ xs) [] = refl
+same_turned (x ∷ xs) (y ∷ ys) = grind (arith, same_turned xs ys)
+
+-- a word in a table of words
+pub in_table : (word : Bytes) (table : List Bytes) → list_any (λ entry. pointwise eqb entry word) table ≡ among word table
+in_table word [] = refl
+in_table word (entry ∷ table) = rw (pointwise_same entry word, same_turned entry word, in_table word table)
+
+-- bytes of different lengths
+pub same_length : (a b : Bytes) → length a ≢ length b → same_bytes a b ≡ false
+same_length [] [] n = absurd (n refl)
+same_length [] (y ∷ ys) n = refl
+same_length (x ∷ xs) [] n = refl
+same_length (x ∷ xs) (y ∷ ys) n = grind (arith, same_length xs ys (λ e. n (ap suc e)))
+
+-- bytes that begin otherwise
+pub same_first : (a : Bytes) (y : ℕ) (ys : Bytes) → get_or a 0 0 ≢ y → same_bytes a (y ∷ ys) ≡ false
+same_first [] y ys n = refl
+same_first (x ∷ xs) y ys n = rw (ne_eqb x y n) refl

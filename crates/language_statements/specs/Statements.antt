@@ -3,7 +3,7 @@ use Rattle.std.specs.Prelude.{◌≡◌, ℕ, ◌≤◌, Bool, true, false, cond
 use Rattle.std.proofs.Math.Option.{Option, some, none}
 use Rattle.meaning.specs.Base.{and_then, Bytes, same_bytes}
 use Rattle.meaning.specs.Steps.{Decl, Step, s_keep, s_make, s_pick, s_join, s_group, s_order, s_take, s_skip, s_unite, s_distinct}
-use Rattle.meaning.specs.Text.{Parsed, then_read, expect, at_end, read_to_end, read_name, read_number}
+use Rattle.meaning.specs.Text.{then_read, expect, at_end, read_to_end, read_name, read_number}
 use Rattle.code.specs.Room.{code_words, mark_words}
 use Rattle.language_pieces.specs.Views.{ahead}
 use Rattle.language_pieces.specs.declared.reader.Reader.{Reader}
@@ -32,11 +32,11 @@ verb_named p =
     (cond (same_bytes p (codes "distinct")) (some v_distinct) none))))))))))
 
 -- a name, and nothing behind it
-unfoldable pub lone_name : List Bytes → Option Bytes
+abbrev pub lone_name : List Bytes → Option Bytes
 lone_name l = read_to_end (read_name l)
 
 -- a number, and nothing behind it
-unfoldable pub lone_number : List Bytes → Option ℕ
+abbrev pub lone_number : List Bytes → Option ℕ
 lone_number l = read_to_end (read_number l)
 
 -- the columns that a join compares
@@ -85,7 +85,7 @@ step_of (Make x r) = and_then (whole_expression (ahead r)) (λ e. some (s_make x
 step_of (Pick n) = and_then (all_names (ahead n.reader)) (λ xs. some (s_pick xs))
 step_of (Join t p stay) = some (s_join t.now p.own.now p.other.now stay)
 step_of (Group k a) =
-    then_read (keys_to_colon (ahead k.reader)) (λ ks l. and_then (aggs_left a.more (ahead a.reader)) (λ aggs. some (s_group ks aggs)))
+    then_read (keys_to_colon (ahead k.reader)) (λ ks l. and_then (aggs_left a.reader) (λ aggs. some (s_group ks aggs)))
 step_of (Order o) = and_then (all_keys (ahead o.reader)) (λ ks. some (s_order ks))
 step_of (Take n) = some (s_take n)
 step_of (Skip n) = some (s_skip n)
@@ -96,18 +96,15 @@ step_of Distinct = some s_distinct
 abbrev pub table_of : Table → Option Decl
 table_of t = and_then (all_columns (ahead t.columns.reader)) (λ cs. some (record { name = t.name.now; rows = t.rows; cols = cs }))
 
+-- a fact of the reader of a step's expression, if it has one
+abbrev pub OfExpression : (Reader → Type 0) → StepView → Type 0
+OfExpression P (Keep r) = P r
+OfExpression P (Make x r) = P r
+OfExpression P _ = Unit {0}
+
 -- the reader of a step's expression is on this line
 abbrev pub OnLine : List ℕ → StepView → Type 0
-OnLine line (Keep r) = r.line.now ≡ line
-OnLine line (Make x r) = r.line.now ≡ line
-OnLine line (Pick n) = Unit {0}
-OnLine line (Join t p stay) = Unit {0}
-OnLine line (Group k a) = Unit {0}
-OnLine line (Order o) = Unit {0}
-OnLine line (Take n) = Unit {0}
-OnLine line (Skip n) = Unit {0}
-OnLine line (Unite t) = Unit {0}
-OnLine line Distinct = Unit {0}
+OnLine line v = OfExpression (λ r. r.line.now ≡ line) v
 
 -- what reading a step came to
 abbrev pub StepRead : {E : Type 0} → Result StepView E → Option Step → List ℕ → Type 0
@@ -120,22 +117,4 @@ Enough marks code r = (mark_words (length r.line.now) ≤ marks) × (code_words 
 
 -- and for that of a step, if it has one
 abbrev pub EnoughFor : ℕ → ℕ → StepView → Type 0
-EnoughFor marks code (Keep r) = Enough marks code r
-EnoughFor marks code (Make x r) = Enough marks code r
-EnoughFor marks code (Pick n) = Unit {0}
-EnoughFor marks code (Join t p stay) = Unit {0}
-EnoughFor marks code (Group k a) = Unit {0}
-EnoughFor marks code (Order o) = Unit {0}
-EnoughFor marks code (Take n) = Unit {0}
-EnoughFor marks code (Skip n) = Unit {0}
-EnoughFor marks code (Unite t) = Unit {0}
-EnoughFor marks code Distinct = Unit {0}
-
--- what stands behind what was read
-abbrev pub behind_read : {A : Type 0} → Option (Parsed A) → Option (List Bytes)
-behind_read r = and_then r (λ p. some p.rest)
-
--- is a result one that went well
-abbrev pub is_ok : {A E : Type 0} → Result A E → Bool
-is_ok (Ok x) = true
-is_ok (Err e) = false
+EnoughFor marks code v = OfExpression (Enough marks code) v

@@ -1,4 +1,7 @@
+ghost use Rattle.std.specs.Prelude.{◌≡◌};
+
 use language_pieces::reader::Reader;
+use std::marker::PhantomData;
 use values::types::Kind;
 
 // A column of a declared table.
@@ -38,11 +41,29 @@ pub struct NamedAggregate<'a> {
     pub aggregate: Aggregate<'a>,
 }
 
-// Names up to the end of the line.
+// Items up to the end of the line.
 #[derive(Clone, Copy)]
-pub struct Names<'a> {
+pub struct Items<'a, T> {
     pub reader: Reader<'a>,
+    of: PhantomData<T>,
 }
+
+impl<'a, T> Items<'a, T> {
+    pub fn new(reader: Reader<'a>) -> Items<'a, T>
+        ensures { result.reader ≡ reader.entry }
+    {
+        Items {
+            reader,
+            of: PhantomData,
+        }
+    }
+}
+
+pub type Names<'a> = Items<'a, &'a [u8]>;
+
+pub type SortKeys<'a> = Items<'a, SortKey<'a>>;
+
+pub type Columns<'a> = Items<'a, Column<'a>>;
 
 // Names up to a colon.
 #[derive(Clone, Copy)]
@@ -50,21 +71,10 @@ pub struct GroupKeys<'a> {
     pub reader: Reader<'a>,
 }
 
-// Aggregates parted by commas, and whether one more is to come.
+// Aggregates parted by commas; no reader where none is to come.
 #[derive(Clone, Copy)]
 pub struct Aggregates<'a> {
-    pub reader: Reader<'a>,
-    pub more: bool,
-}
-
-#[derive(Clone, Copy)]
-pub struct SortKeys<'a> {
-    pub reader: Reader<'a>,
-}
-
-#[derive(Clone, Copy)]
-pub struct Columns<'a> {
-    pub reader: Reader<'a>,
+    pub reader: Option<Reader<'a>>,
 }
 
 // The columns that a join compares: one of the rows, one of the table.

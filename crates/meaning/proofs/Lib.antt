@@ -7,4 +7,3 @@ pub mod Unused
 pub mod WellFormed
 pub mod Order
 pub mod Laws
-pub mod Worked

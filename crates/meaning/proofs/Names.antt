@@ -11,10 +11,6 @@ bool_ext true b f g = sym (f refl)
 bool_ext false true f g = g refl
 bool_ext false false f g = refl
 
-pub or_false : (b : Bool) → (b || false) ≡ b
-or_false true = refl
-or_false false = refl
-
 pub same_is : (x y : Bytes) → same_bytes x y ≡ true → x ≡ y
 same_is [] [] e = refl
 same_is [] (y ∷ ys) e = absurd (false≢true e)

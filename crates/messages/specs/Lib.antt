@@ -1,2 +1,2 @@
 pub mod Quotes
-pub mod Parts
+pub mod Lines

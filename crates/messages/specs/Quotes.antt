@@ -1,6 +1,6 @@
 -- Parts of a text between quotes.
 use Rattle.std.specs.Prelude.{ℕ, ◌+◌, ◌/◌, ◌%◌, Bool, cond, ◌&&◌, List, [], ◌∷◌, ◌++◌, codes, nat_le, nat_lt}
-use Rattle.std.specs.List.{flat_map}
+use Rattle.std.specs.List.{flat_map, list_all}
 
 -- does a byte print
 abbrev pub prints : ℕ → Bool
@@ -18,3 +18,7 @@ quoted_byte byte =
 -- bytes between quotes
 abbrev pub quoted : List ℕ → List ℕ
 quoted bytes = codes "'" ++ flat_map quoted_byte bytes ++ codes "'"
+
+-- do bytes stay on one line: each of them prints
+abbrev pub one_line : List ℕ → Bool
+one_line = list_all prints

@@ -1,5 +1,5 @@
-// Messages for people: words, numbers and quotes of a text, put together as one line.
+// Messages for people: what is quoted from a text, and on which line of it something is wrong.
 #![tactic(auto)]
 
-pub mod parts;
+pub mod lines;
 pub mod quotes;

@@ -1,59 +1,48 @@
 // Parts of a text as messages show them.
-ghost use Rattle.std.specs.Prelude.{◌≡◌, ◌<◌, ◌++◌, IfOk, string_bytes, OnOk};
-ghost use Rattle.messages.specs.Quotes.{hex_digit, prints, quoted, quoted_byte};
+ghost use Rattle.std.specs.Prelude.{◌≡◌, IsTrue, IfOk, Some, string_bytes};
+ghost use Rattle.messages.specs.Quotes.{one_line, quoted, quoted_byte};
 
 use std::alloc::{AllocError, Global};
-
-// A digit to base 16.
-fn hex_digit(digit: u8) -> char
-    requires { digit < 16 }
-    ensures value { result ≡ hex_digit digit }
-    ensures ascii { result < 128 }
-{
-    if digit < 10 {
-        char::from(b'0' + digit)
-    } else {
-        char::from(b'a' + (digit - 10))
-    }
-}
-
-fn prints(byte: u8) -> bool
-    ensures { result ≡ prints byte }
-{
-    b' ' <= byte && byte <= b'~'
-}
+use std::fmt;
 
 // What doesn't print comes as \xNN, so that a message stays one line.
-fn push_byte(message: &mut String, byte: u8) -> Result<(), AllocError>
-    ensures { OnOk result (string_bytes message.new ≡ string_bytes message.old ++ quoted_byte byte) }
-{
-    if prints(byte) {
-        message.push(char::from(byte))?;
-    } else {
-        message.push_str("\\x")?;
-        message.push(hex_digit(byte / 16))?;
-        message.push(hex_digit(byte % 16))?;
+#[derive(Clone, Copy)]
+struct QuotedByte(u8);
+
+impl fmt::Display for QuotedByte {
+    ghost output = { λ b. Some (quoted_byte b.0) };
+
+    #[tactic(auto, using(std::proofs::lemmas::Fmt::hex_byte))]
+    fn fmt<W: fmt::Write>(&self, f: &mut fmt::Formatter<W>) -> fmt::Result {
+        let byte = self.0;
+        if (b' '..=b'~').contains(&byte) {
+            f.write_char(char::from(byte))
+        } else {
+            write!(f, "\\x{byte:02x}")
+        }
     }
-    Ok(())
 }
 
-// Bytes of the text between quotes.
-pub fn push_quote(message: &mut String, bytes: &[u8]) -> Result<(), AllocError>
-    ensures { OnOk result (string_bytes message.new ≡ string_bytes message.old ++ quoted bytes.now) }
-{
-    message.push('\'')?;
-    for byte in bytes.iter() {
-        push_byte(message, *byte)?;
+// Bytes of a text between quotes.
+#[derive(Clone, Copy)]
+pub struct Quoted<'a>(pub &'a [u8]);
+
+impl fmt::Display for Quoted<'_> {
+    ghost output = { λ q. Some (quoted q.0.now) };
+
+    fn fmt<W: fmt::Write>(&self, f: &mut fmt::Formatter<W>) -> fmt::Result {
+        f.write_str("'")?;
+        for byte in self.0.iter() {
+            QuotedByte(*byte).fmt(f)?;
+        }
+        f.write_str("'")
     }
-    message.push('\'')?;
-    Ok(())
 }
 
-// A name between quotes, as messages show it.
+// A name between quotes.
 pub fn quote(heap: Global, name: &str) -> Result<String, AllocError>
-    ensures { IfOk result (λ m. string_bytes m ≡ quoted name.now) }
+    ensures value { IfOk result (λ m. string_bytes m ≡ quoted name.now) }
+    ensures one_line { IfOk result (λ m. IsTrue (one_line (string_bytes m))) }
 {
-    let mut message = String::new(heap);
-    push_quote(&mut message, name.as_bytes())?;
-    Ok(message)
+    Quoted(name.as_bytes()).to_string(heap)
 }

@@ -1,10 +1,9 @@
 // Page files: words of 64 bits, the lowest byte first, 512 words to a page.
 #![tactic(auto)]
 
-ghost use Rattle.std.specs.Prelude.{◌≡◌, ◌+◌, ◌≤◌, length};
+ghost use Rattle.std.specs.Prelude.{◌≡◌};
 ghost use Rattle.pagefile.specs.declared.PageFileError.TheVariants.{OutOfMemory};
 ghost use Rattle.pagefile.specs.Decoded.{Decoded};
-ghost use Rattle.pagefile.specs.Words.{word_from};
 
 use std::alloc::{AllocError, AllocFailed, Global};
 
@@ -17,6 +16,7 @@ pub enum PageFileError {
     OutOfMemory,
 }
 
+// Two impls, since a failed push and a failed collect are two errors; here only a collect may fail.
 impl From<AllocError> for PageFileError {
     ghost from_gives = { λ _ r. r ≡ OutOfMemory };
 
@@ -33,22 +33,6 @@ impl<T: Drop> From<AllocFailed<T>> for PageFileError {
     }
 }
 
-fn word_from(bytes: &[u8], i: usize) -> u64
-    requires { i + 8 ≤ length bytes.now }
-    ensures { result ≡ word_from bytes.now i }
-{
-    u64::from_le_bytes([
-        bytes[i],
-        bytes[i + 1],
-        bytes[i + 2],
-        bytes[i + 3],
-        bytes[i + 4],
-        bytes[i + 5],
-        bytes[i + 6],
-        bytes[i + 7],
-    ])
-}
-
 // The words of a page file.
 pub fn decode(heap: Global, bytes: &[u8]) -> Result<Vec<u64>, PageFileError>
     ensures { Decoded bytes.now result }
@@ -56,9 +40,7 @@ pub fn decode(heap: Global, bytes: &[u8]) -> Result<Vec<u64>, PageFileError>
     if bytes.len() % PAGE_BYTES != 0 {
         return Err(PageFileError::NotWhole);
     }
-    let mut words = Vec::new(heap);
-    for i in 0..bytes.len() / 8 {
-        words.push(word_from(bytes, 8 * i))?;
-    }
-    Ok(words)
+    let (chunks, _) = bytes.as_chunks::<8>();
+    let words = chunks.iter().map(|chunk| u64::from_le_bytes(*chunk));
+    Ok(words.collect(heap)?)
 }

@@ -8,7 +8,8 @@ use Rattle.meaning.specs.Steps.{Decl, NamedAgg, Step, s_keep, s_make, s_pick, s_
 use Rattle.meaning.specs.Plan.{cols_after, add_names, intersect, agg_names, used_aggs, used_before, used}
 use Rattle.projection.specs.Projected.{Scan, projected_next, projected_steps, named_amount, projected_total}
 use Rattle.projection.specs.Cells.{UsedByMembership, JoinUsedByMembership}
-use Rattle.meaning.proofs.Names.{or_false, In, bool_ext, same_is, in_filter, filter_in, filter_true}
+use Rattle.std.proofs.Math.Bool.{or-false}
+use Rattle.meaning.proofs.Names.{In, bool_ext, same_is, in_filter, filter_in, filter_true}
 
 grown_is : (b : Bool) (x v : Bytes) (ws : List Bytes) → among v ws ≡ b → among x (cond b ws (v ∷ ws)) ≡ (same_bytes x v || among x ws)
 grown_is true x v ws e =
@@ -51,7 +52,7 @@ used_by_membership cs (s_make y e) us x =
 used_by_membership cs (s_pick xs) us x = refl
 used_by_membership cs (s_join n y z stay) us x =
     add_names_is x (y ∷ []) (intersect us (col_names cs))
-    ∙ ap₂ (λ a b. a || b) (or_false (same_bytes x y)) (filter_is (λ u. among u (col_names cs)) x us)
+    ∙ ap₂ (λ a b. a || b) (or-false (same_bytes x y)) (filter_is (λ u. among u (col_names cs)) x us)
 used_by_membership cs (s_group xs aggs) us x = add_names_is x xs (used_aggs us aggs) ∙ ap (λ b. among x xs || b) (used_aggs_is x us aggs)
 used_by_membership cs (s_order ks) us x = add_names_is x (key_names ks) us
 used_by_membership cs (s_take n) us x = refl
@@ -62,7 +63,7 @@ used_by_membership cs s_distinct us x = refl
 pub join_used_by_membership : JoinUsedByMembership
 join_used_by_membership es n y z stay us x =
     add_names_is x (z ∷ []) (intersect us (col_names es))
-    ∙ ap₂ (λ a b. a || b) (or_false (same_bytes x z)) (filter_is (λ u. among u (col_names es)) x us)
+    ∙ ap₂ (λ a b. a || b) (or-false (same_bytes x z)) (filter_is (λ u. among u (col_names es)) x us)
 
 -- one turn
 pub used_turn :

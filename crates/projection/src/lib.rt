@@ -1,4 +1,4 @@
-// A question run on projected tables, each cut down to the columns that are used from there on. Each function here carries a theorem, which is its contract, and does nothing else.
+// A question run on projected tables, each cut down to the columns that are used from there on. Each function here carries a theorem, which is its contract, and does nothing.
 #![tactic(auto)]
 
 ghost use Rattle.projection.specs.Cells.{AllProjected, GetByPlace, GroupByCells, JoinByCells, JoinUsedByMembership, MakeByCells, PlaceProjected, UsedByMembership};
@@ -6,64 +6,48 @@ ghost use Rattle.projection.specs.Course.{CourseEnds, CourseStarts, CourseTurns,
 ghost use Rattle.projection.specs.Projected.{ProjectedAnswers, ProjectedReads, ProjectedTotals};
 
 // The run on projected tables, which reads only what is used, comes to the answer.
-pub fn projected_answers() -> u8
+pub fn projected_answers()
     ensures { ProjectedAnswers }
-{
-    0
-}
+{}
 
 // The rows and the pages of all tables can be counted in the run on projected tables.
-pub fn projected_totals() -> u8
+pub fn projected_totals()
     ensures { ProjectedTotals }
-{
-    0
-}
+{}
 
 // The run on projected tables reads just the pages that were told beforehand.
-pub fn projected_reads() -> u8
+pub fn projected_reads()
     ensures { ProjectedReads }
-{
-    0
-}
+{}
 
 // All turns of a run together have to do with each row at most twice.
-pub fn turned_twice() -> u8
+pub fn turned_twice()
     ensures { TurnedTwice }
-{
-    0
-}
+{}
 
 // A run that goes on turn by turn, as the turns allow, ends with the answer at hand, and its touches add up.
-pub fn course_leads() -> u8
+pub fn course_leads()
     ensures starts { CourseStarts }
     ensures turns { CourseTurns }
     ensures ends { CourseEnds }
-{
-    0
-}
+{}
 
 // A value lies at the place of its column; among the columns that are used, that place is the number of those before it; where none is left out, rows stay as they are.
-pub fn by_place() -> u8
+pub fn by_place()
     ensures get { GetByPlace }
     ensures place { PlaceProjected }
     ensures whole { AllProjected }
-{
-    0
-}
+{}
 
 // The steps that make new rows, on projected tables, cell by cell.
-pub fn by_cells() -> u8
+pub fn by_cells()
     ensures make { MakeByCells }
     ensures join { JoinByCells }
     ensures group { GroupByCells }
-{
-    0
-}
+{}
 
 // What is used before a step, and of the table that a join names, can be told by membership in what is used after it.
-pub fn by_membership() -> u8
+pub fn by_membership()
     ensures row { UsedByMembership }
     ensures join { JoinUsedByMembership }
-{
-    0
-}
+{}

@@ -1,44 +1,56 @@
-// Postfix code on a row.
+// Postfix code on rows.
 use reference_planning::plans::*;
 use reference_values::values::*;
-use std::alloc::AllocError;
+use std::alloc::{AllocError, Global};
 
 pub fn cell(row: &[Value], column: usize) -> Value {
     row.get(column).copied().unwrap_or(Value::Null)
 }
 
-fn top(stack: &mut Vec<Value>) -> Value {
-    stack.pop().unwrap_or(Value::Null)
+// Postfix code, and the stack that it works on.
+#[derive(Drop)]
+pub struct Evaluator<'c> {
+    code: &'c [Instruction],
+    stack: Vec<Value>,
 }
 
-fn execute(instruction: Instruction, row: &[Value], stack: &mut Vec<Value>) -> Value {
-    match instruction {
-        Instruction::Push(value) => value,
-        Instruction::Column(at) => cell(row, at),
-        Instruction::Apply(operator) => {
-            let right = top(stack);
-            let left = top(stack);
-            Value::apply(operator, left, right)
-        }
-        Instruction::Not => top(stack).not(),
-        Instruction::IsNull => Value::of_bool(top(stack).is_null()),
-        Instruction::Choose => {
-            let no = top(stack);
-            let yes = top(stack);
-            top(stack).choose(yes, no)
+impl<'c> Evaluator<'c> {
+    pub fn new(heap: Global, code: &'c [Instruction]) -> Evaluator<'c> {
+        Evaluator {
+            code,
+            stack: Vec::new(heap),
         }
     }
-}
 
-// What the code comes to on a row; the stack is left as it was.
-pub fn evaluate(
-    code: &[Instruction],
-    row: &[Value],
-    stack: &mut Vec<Value>,
-) -> Result<Value, AllocError> {
-    for instruction in code.iter() {
-        let value = execute(*instruction, row, stack);
-        stack.push(value)?;
+    fn pop(&mut self) -> Value {
+        self.stack.pop().unwrap_or(Value::Null)
     }
-    Ok(top(stack))
+
+    fn execute(&mut self, instruction: Instruction, row: &[Value]) -> Value {
+        match instruction {
+            Instruction::Push(value) => value,
+            Instruction::Column(at) => cell(row, at),
+            Instruction::Apply(operator) => {
+                let right = self.pop();
+                let left = self.pop();
+                Value::apply(operator, left, right)
+            }
+            Instruction::Not => !self.pop(),
+            Instruction::IsNull => Value::from(self.pop().is_null()),
+            Instruction::Choose => {
+                let no = self.pop();
+                let yes = self.pop();
+                self.pop().choose(yes, no)
+            }
+        }
+    }
+
+    // What the code comes to on a row; the stack is left as it was.
+    pub fn evaluate(&mut self, row: &[Value]) -> Result<Value, AllocError> {
+        for instruction in self.code.iter() {
+            let value = self.execute(*instruction, row);
+            self.stack.push(value)?;
+        }
+        Ok(self.pop())
+    }
 }

@@ -1,64 +1,27 @@
 // Names to positions, and the types of expressions.
-ghost use Rattle.std.specs.Prelude.{◌<◌, ◌≤◌, length, IfSome, IfOk};
-
+use crate::checking::*;
 use crate::faults::*;
 use crate::plans::*;
+use reference_reading::names::find;
 use reference_reading::questions::*;
-use reference_reading::spans::*;
 use reference_values::values::*;
-use std::alloc::Global;
 
-pub fn find_column(text: &[u8], columns: &[Column], name: Span) -> Option<usize>
-    ensures { IfSome result (λ i. i < length columns.now) }
-{
-    for (i, column) in columns.iter().enumerate() {
-        if column.name.same(name, text) {
-            return Some(i);
-        }
-    }
-    None
-}
-
-pub fn find_table(text: &[u8], tables: &[TableDecl], name: Span) -> Result<usize, Unsound>
-    ensures { IfOk result (λ i. i < length tables.now) }
-{
-    for (i, table) in tables.iter().enumerate() {
-        if table.name.same(name, text) {
-            return Ok(i);
-        }
-    }
-    Err(Unsound::NoTable(name))
-}
-
-// The columns that a step stands behind, one to 64, and where the line stands that brought them.
+// What a step stands behind: the tables, the columns, and the line that brought these.
 #[derive(Clone, Copy)]
-pub struct Before<'b> {
-    pub text: &'b [u8],
-    pub columns: &'b [Column],
-    pub line: Span,
-    ghost any: { 1 ≤ length columns.now },
-    ghost few: { length columns.now ≤ 64 },
+pub struct Before<'b, 't> {
+    pub tables: Tables<'b, 't>,
+    pub columns: &'b Columns<'t>,
+    pub line: &'t [u8],
 }
 
-// A column by its position and its kind.
+// A column, and where it stands.
 #[derive(Clone, Copy)]
-pub struct Place {
+pub struct Place<'t> {
     pub at: usize,
-    pub kind: Kind,
+    pub column: Column<'t>,
 }
 
-impl<'b> Before<'b> {
-    pub fn place(self, name: Span) -> Result<Place, Unsound> {
-        match find_column(self.text, self.columns, name) {
-            Some(at) => Ok(Place {
-                at,
-                kind: self.columns[at].kind,
-            }),
-            None => Err(Unsound::NoColumn(name, self.line)),
-        }
-    }
-}
-
+// A fault holds the word itself, so this is no `impl Display`.
 fn spelling(operator: Operator) -> &'static str {
     match operator {
         Operator::Add => "+",
@@ -76,13 +39,10 @@ fn spelling(operator: Operator) -> &'static str {
 }
 
 fn compares(operator: Operator) -> bool {
-    match operator {
-        Operator::Equal => true,
-        Operator::Differ => true,
-        Operator::Less => true,
-        Operator::AtMost => true,
-        _ => false,
-    }
+    matches!(
+        operator,
+        Operator::Equal | Operator::Differ | Operator::Less | Operator::AtMost
+    )
 }
 
 // The kinds of what postfix code has put on the stack so far.
@@ -97,14 +57,14 @@ impl Kinds {
     }
 
     // A number on top, or the fault that it isn't one.
-    fn number(&mut self, fault: Unsound) -> Result<(), Unsound> {
+    fn number<'t>(&mut self, fault: Unsound<'t>) -> Result<(), Unsound<'t>> {
         match self.pop() {
             Kind::Num => Ok(()),
             Kind::Word => Err(fault),
         }
     }
 
-    fn apply(&mut self, operator: Operator) -> Result<(), Unsound> {
+    fn apply<'t>(&mut self, operator: Operator) -> Result<(), Unsound<'t>> {
         let word = spelling(operator);
         if compares(operator) {
             if self.pop() != self.pop() {
@@ -114,59 +74,17 @@ impl Kinds {
             self.number(Unsound::WantsNumbers(word))?;
             self.number(Unsound::WantsNumbers(word))?;
         }
-        self.stack.push(Kind::Num)?;
         Ok(())
     }
 
-    fn choose(&mut self) -> Result<(), Unsound> {
+    fn choose<'t>(&mut self) -> Result<Kind, Unsound<'t>> {
         let no = self.pop();
         let yes = self.pop();
         self.number(Unsound::WantsNumber("if"))?;
         if no != yes {
             return Err(Unsound::WantsOneType("else"));
         }
-        self.stack.push(yes)?;
-        Ok(())
-    }
-}
-
-fn bind_item(before: Before<'_>, kinds: &mut Kinds, item: Item) -> Result<Instruction, Unsound> {
-    match item {
-        Item::Number(n) => {
-            kinds.stack.push(Kind::Num)?;
-            Ok(Instruction::Push(Value::Number(n)))
-        }
-        Item::Word(w) => {
-            kinds.stack.push(Kind::Word)?;
-            Ok(Instruction::Push(Value::Word(w)))
-        }
-        Item::Null(kind) => {
-            kinds.stack.push(kind)?;
-            Ok(Instruction::Push(Value::Null))
-        }
-        Item::Column(name) => {
-            let place = before.place(name)?;
-            kinds.stack.push(place.kind)?;
-            Ok(Instruction::Column(place.at))
-        }
-        Item::Apply(operator) => {
-            kinds.apply(operator)?;
-            Ok(Instruction::Apply(operator))
-        }
-        Item::Not => {
-            kinds.number(Unsound::WantsNumber("not"))?;
-            kinds.stack.push(Kind::Num)?;
-            Ok(Instruction::Not)
-        }
-        Item::IsNull => {
-            let _ = kinds.pop();
-            kinds.stack.push(Kind::Num)?;
-            Ok(Instruction::IsNull)
-        }
-        Item::Choose => {
-            kinds.choose()?;
-            Ok(Instruction::Choose)
-        }
+        Ok(yes)
     }
 }
 
@@ -177,14 +95,58 @@ pub struct TypedCode {
     pub kind: Kind,
 }
 
-pub fn bind_code(heap: Global, before: Before<'_>, items: &[Item]) -> Result<TypedCode, Unsound> {
-    let mut code = Vec::new(heap);
-    let mut kinds = Kinds {
-        stack: Vec::new(heap),
-    };
-    for item in items.iter() {
-        code.push(bind_item(before, &mut kinds, *item)?)?;
+impl<'b, 't> Before<'b, 't> {
+    pub fn place(self, name: &'t [u8]) -> Result<Place<'t>, Unsound<'t>> {
+        let columns = self.columns.all.as_slice();
+        let at = find(columns, name).ok_or(Unsound::NoColumn(name, self.line))?;
+        Ok(Place {
+            at,
+            column: columns[at],
+        })
     }
-    let kind = kinds.pop();
-    Ok(TypedCode { code, kind })
+
+    // What an item does, and the kind of what it leaves on the stack.
+    fn bind_item(
+        self,
+        kinds: &mut Kinds,
+        item: Item<'t>,
+    ) -> Result<(Instruction, Kind), Unsound<'t>> {
+        match item {
+            Item::Number(n) => Ok((Instruction::Push(Value::Number(n)), Kind::Num)),
+            Item::Word(w) => Ok((Instruction::Push(Value::Word(w)), Kind::Word)),
+            Item::Null(kind) => Ok((Instruction::Push(Value::Null), kind)),
+            Item::Column(name) => {
+                let place = self.place(name)?;
+                Ok((Instruction::Column(place.at), place.column.kind))
+            }
+            Item::Apply(operator) => {
+                kinds.apply(operator)?;
+                Ok((Instruction::Apply(operator), Kind::Num))
+            }
+            Item::Not => {
+                kinds.number(Unsound::WantsNumber("not"))?;
+                Ok((Instruction::Not, Kind::Num))
+            }
+            Item::IsNull => {
+                let _ = kinds.pop();
+                Ok((Instruction::IsNull, Kind::Num))
+            }
+            Item::Choose => Ok((Instruction::Choose, kinds.choose()?)),
+        }
+    }
+
+    // No `map`, as in `places`.
+    pub fn bind(self, items: &[Item<'t>]) -> Result<TypedCode, Unsound<'t>> {
+        let mut code = Vec::new(self.tables.heap);
+        let mut kinds = Kinds {
+            stack: Vec::new(self.tables.heap),
+        };
+        for item in items.iter() {
+            let (instruction, kind) = self.bind_item(&mut kinds, *item)?;
+            code.push(instruction)?;
+            kinds.stack.push(kind)?;
+        }
+        let kind = kinds.pop();
+        Ok(TypedCode { code, kind })
+    }
 }

@@ -1,151 +1,100 @@
 // Why a question isn't sound.
-use reference_reading::messages::*;
-use reference_reading::spans::*;
-use std::alloc::{AllocError, AllocFailed, Global};
+ghost use Rattle.std.specs.Prelude.{◌≡◌, Some};
+ghost use Rattle.reference_planning.specs.Faults.{unsound_told};
+ghost use Rattle.reference_planning.specs.declared.faults.Unsound.TheVariants.{OutOfMemory};
+
+use messages::lines::AtLine;
+use messages::quotes::Quoted;
+use std::alloc::{AllocError, AllocFailed};
+use std::fmt;
 
 #[derive(Clone, Copy)]
-pub enum Unsound {
-    SameTable(Span),
-    SameColumn(Span),
+pub enum Unsound<'t> {
+    SameTable(&'t [u8]),
+    SameColumn(&'t [u8]),
     NoColumns,
     TooManyColumns(usize),
     // A column that ends behind the tables' pages, and how many these are.
-    BeyondBorder(Span, u64),
-    NoTable(Span),
+    BeyondBorder(&'t [u8], u64),
+    NoTable(&'t [u8]),
     // The column's name, and the step behind which it isn't.
-    NoColumn(Span, Span),
+    NoColumn(&'t [u8], &'t [u8]),
     // The column's name, and the table that lacks it.
-    NotInTable(Span, Span),
+    NotInTable(&'t [u8], &'t [u8]),
     WantsNumber(&'static str),
     WantsNumbers(&'static str),
     WantsOneType(&'static str),
-    SumOfWords(Span),
+    SumOfWords(&'t [u8]),
     // The two columns of a join.
-    TypesDiffer(Span, Span),
+    TypesDiffer(&'t [u8], &'t [u8]),
     // The table to be united, and the step behind which the columns are others.
-    OtherColumns(Span, Span),
+    OtherColumns(&'t [u8], &'t [u8]),
     OutOfMemory,
 }
 
-// A question that isn't sound: the line, counted from 1, and what is wrong there.
-#[derive(Clone, Copy)]
-pub struct NotSound {
-    pub line: usize,
-    pub fault: Unsound,
-}
+// A question that isn't sound.
+pub type NotSound<'t> = AtLine<Unsound<'t>>;
 
-impl From<AllocError> for Unsound {
+// Two impls, since a failed push and a failed collect are two errors.
+impl From<AllocError> for Unsound<'_> {
+    ghost from_gives = { λ _ fault. fault ≡ OutOfMemory };
+
     fn from(_error: AllocError) -> Self {
         Unsound::OutOfMemory
     }
 }
 
-impl<T: Drop> From<AllocFailed<T>> for Unsound {
+impl<T: Drop> From<AllocFailed<T>> for Unsound<'_> {
+    ghost from_gives = { λ _ fault. fault ≡ OutOfMemory };
+
     fn from(_error: AllocFailed<T>) -> Self {
         Unsound::OutOfMemory
     }
 }
 
-// Something is wrong with a name.
-fn about(words: &'static str, name: Span) -> Phrase {
-    [
-        Part::Words(words),
-        Part::Quote(name),
-        Part::Empty,
-        Part::Empty,
-        Part::Empty,
-    ]
-}
+impl fmt::Display for Unsound<'_> {
+    ghost output = { λ fault. Some (unsound_told fault) };
 
-// Something is wrong with two names.
-fn about_two(
-    words: &'static str,
-    name: Span,
-    link: &'static str,
-    other: Span,
-    rest: &'static str,
-) -> Phrase {
-    [
-        Part::Words(words),
-        Part::Quote(name),
-        Part::Words(link),
-        Part::Quote(other),
-        Part::Words(rest),
-    ]
-}
-
-// A word of the language wants something else.
-fn wants(word: &'static str, wanted: &'static str) -> Phrase {
-    [
-        Part::Words("'"),
-        Part::Words(word),
-        Part::Words("' wants "),
-        Part::Words(wanted),
-        Part::Empty,
-    ]
-}
-
-fn beyond(name: Span, pages: u64) -> Phrase {
-    [
-        Part::Words("column "),
-        Part::Quote(name),
-        Part::Words(" ends behind the file's "),
-        Part::Number(pages),
-        Part::Words(" pages"),
-    ]
-}
-
-fn too_many(count: usize) -> Phrase {
-    [
-        Part::Number(count as u64),
-        Part::Words(" columns, more than 64"),
-        Part::Empty,
-        Part::Empty,
-        Part::Empty,
-    ]
-}
-
-impl Unsound {
-    fn phrase(self) -> Phrase {
-        match self {
-            Unsound::SameTable(name) => about("a second table is named ", name),
-            Unsound::SameColumn(name) => about("a second column is named ", name),
-            Unsound::NoColumns => plain("there are no columns"),
-            Unsound::TooManyColumns(count) => too_many(count),
-            Unsound::BeyondBorder(name, pages) => beyond(name, pages),
-            Unsound::NoTable(name) => about("no table ", name),
-            Unsound::NoColumn(name, step) => about_two("no column ", name, " behind ", step, ""),
-            Unsound::NotInTable(name, table) => about_two(
-                "no column ",
-                name,
-                " in table ",
-                table,
-                "",
-            ),
-            Unsound::WantsNumber(word) => wants(word, "a number"),
-            Unsound::WantsNumbers(word) => wants(word, "numbers"),
-            Unsound::WantsOneType(word) => wants(word, "two values of one type"),
-            Unsound::SumOfWords(name) => about(
-                "'sum' wants numbers, not the words of column ",
-                name,
-            ),
-            Unsound::TypesDiffer(x, y) => about_two("columns ", x, " and ", y, " differ in type"),
-            Unsound::OtherColumns(table, step) => {
-                about_two(
-                    "table ",
-                    table,
-                    " has other columns than stand behind ",
-                    step,
-                    "",
+    fn fmt<W: fmt::Write>(&self, f: &mut fmt::Formatter<W>) -> fmt::Result {
+        match *self {
+            Unsound::SameTable(name) => write!(f, "a second table is named {}", Quoted(name)),
+            Unsound::SameColumn(name) => write!(f, "a second column is named {}", Quoted(name)),
+            Unsound::NoColumns => write!(f, "there are no columns"),
+            Unsound::TooManyColumns(count) => write!(f, "{count} columns, more than 64"),
+            Unsound::BeyondBorder(name, pages) => {
+                write!(
+                    f,
+                    "column {} ends behind the file's {pages} pages",
+                    Quoted(name)
                 )
             }
-            Unsound::OutOfMemory => plain("out of memory"),
+            Unsound::NoTable(name) => write!(f, "no table {}", Quoted(name)),
+            Unsound::NoColumn(name, step) => {
+                write!(f, "no column {} behind {}", Quoted(name), Quoted(step))
+            }
+            Unsound::NotInTable(name, table) => {
+                write!(f, "no column {} in table {}", Quoted(name), Quoted(table))
+            }
+            Unsound::WantsNumber(word) => write!(f, "'{word}' wants a number"),
+            Unsound::WantsNumbers(word) => write!(f, "'{word}' wants numbers"),
+            Unsound::WantsOneType(word) => write!(f, "'{word}' wants two values of one type"),
+            Unsound::SumOfWords(name) => {
+                write!(
+                    f,
+                    "'sum' wants numbers, not the words of column {}",
+                    Quoted(name)
+                )
+            }
+            Unsound::TypesDiffer(x, y) => {
+                write!(f, "columns {} and {} differ in type", Quoted(x), Quoted(y))
+            }
+            Unsound::OtherColumns(table, step) => write!(
+                f,
+                "table {} has other columns than stand behind {}",
+                Quoted(table),
+                Quoted(step)
+            ),
+            Unsound::OutOfMemory => write!(f, "out of memory"),
         }
-    }
-}
-
-impl NotSound {
-    pub fn message(self, heap: Global, text: &[u8]) -> Result<String, AllocError> {
-        message(heap, text, self.line, self.fault.phrase())
     }
 }

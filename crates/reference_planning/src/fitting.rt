@@ -3,91 +3,8 @@ use crate::binding::*;
 use crate::checking::*;
 use crate::faults::*;
 use crate::plans::*;
+use reference_reading::names::find;
 use reference_reading::questions::*;
-use reference_reading::spans::*;
-use std::alloc::Global;
-
-// What a step does, where it leaves the columns as they are.
-fn same_columns(heap: Global, before: Before<'_>, action: Action) -> Result<Bound, Unsound> {
-    let columns = before.columns.to_vec(heap)?;
-    Ok(Bound { action, columns })
-}
-
-// What a step does that brings columns: one to 64, all of different names.
-fn new_columns(text: &[u8], columns: Vec<Column>, action: Action) -> Result<Bound, Unsound> {
-    check_columns(text, columns.as_slice())?;
-    Ok(Bound { action, columns })
-}
-
-fn keep(heap: Global, before: Before<'_>, items: &[Item]) -> Result<Bound, Unsound> {
-    let bound = bind_code(heap, before, items)?;
-    if bound.kind != Kind::Num {
-        return Err(Unsound::WantsNumber("keep"));
-    }
-    same_columns(heap, before, Action::Keep(bound.code))
-}
-
-fn make(heap: Global, before: Before<'_>, make: &Make) -> Result<Bound, Unsound> {
-    let bound = bind_code(heap, before, make.code.as_slice())?;
-    let mut columns = before.columns.to_vec(heap)?;
-    columns.push(Column {
-        name: make.name,
-        kind: bound.kind,
-    })?;
-    new_columns(before.text, columns, Action::Make(bound.code))
-}
-
-// The positions of columns, whose names and kinds are added to `columns`.
-fn positions(
-    heap: Global,
-    before: Before<'_>,
-    names: &[Span],
-    columns: &mut Vec<Column>,
-) -> Result<Vec<usize>, Unsound> {
-    let mut positions = Vec::new(heap);
-    for name in names.iter() {
-        let place = before.place(*name)?;
-        positions.push(place.at)?;
-        columns.push(Column {
-            name: *name,
-            kind: place.kind,
-        })?;
-    }
-    Ok(positions)
-}
-
-fn pick(heap: Global, before: Before<'_>, names: &[Span]) -> Result<Bound, Unsound> {
-    let mut columns = Vec::new(heap);
-    let positions = positions(heap, before, names, &mut columns)?;
-    new_columns(before.text, columns, Action::Pick(positions))
-}
-
-fn join(
-    heap: Global,
-    tables: &[TableDecl],
-    before: Before<'_>,
-    join: Join,
-) -> Result<Bound, Unsound> {
-    let table = find_table(before.text, tables, join.table)?;
-    let others = columns_of(heap, before.text, &tables[table])?;
-    let place = before.place(join.column)?;
-    let Some(other_column) = find_column(before.text, others.as_slice(), join.other_column) else {
-        return Err(Unsound::NotInTable(join.other_column, join.table));
-    };
-    if others[other_column].kind != place.kind {
-        return Err(Unsound::TypesDiffer(join.column, join.other_column));
-    }
-    let mut columns = before.columns.to_vec(heap)?;
-    columns.extend_from_slice(others.as_slice())?;
-    let action = Action::Join(JoinOn {
-        table,
-        column: place.at,
-        other_column,
-        other_width: others.len(),
-        stays: join.stays,
-    });
-    new_columns(before.text, columns, action)
-}
 
 // What an aggregate does, and the kind of what it comes to.
 #[derive(Clone, Copy)]
@@ -96,119 +13,174 @@ struct Folding {
     kind: Kind,
 }
 
-fn aggregate(before: Before<'_>, aggregate: Aggregate) -> Result<Folding, Unsound> {
-    match aggregate {
-        Aggregate::Sum(name) => {
-            let place = before.place(name)?;
-            match place.kind {
-                Kind::Num => Ok(Folding {
-                    aggregation: Aggregation::Sum(place.at),
-                    kind: Kind::Num,
-                }),
-                Kind::Word => Err(Unsound::SumOfWords(name)),
-            }
-        }
-        Aggregate::Count => Ok(Folding {
-            aggregation: Aggregation::Count,
-            kind: Kind::Num,
-        }),
-        Aggregate::Min(name) => {
-            let place = before.place(name)?;
-            Ok(Folding {
-                aggregation: Aggregation::Min(place.at),
-                kind: place.kind,
-            })
-        }
-        Aggregate::Max(name) => {
-            let place = before.place(name)?;
-            Ok(Folding {
-                aggregation: Aggregation::Max(place.at),
-                kind: place.kind,
-            })
-        }
-        Aggregate::First(name) => {
-            let place = before.place(name)?;
-            Ok(Folding {
-                aggregation: Aggregation::First(place.at),
-                kind: place.kind,
-            })
-        }
+impl<'b, 't> Before<'b, 't> {
+    // What a step does, where it leaves the columns as they are.
+    fn same_columns(self, action: Action) -> Result<Bound<'t>, Unsound<'t>> {
+        let columns = Columns {
+            all: self.columns.all.clone()?,
+        };
+        Ok(Bound { action, columns })
     }
-}
 
-fn group(heap: Global, before: Before<'_>, group: &Group) -> Result<Bound, Unsound> {
-    let mut columns = Vec::new(heap);
-    let keys = positions(heap, before, group.keys.as_slice(), &mut columns)?;
-    let mut aggregations = Vec::new(heap);
-    for named in group.aggregates.iter() {
-        let folding = aggregate(before, named.aggregate)?;
-        aggregations.push(folding.aggregation)?;
+    fn keep(self, items: &[Item<'t>]) -> Result<Bound<'t>, Unsound<'t>> {
+        let bound = self.bind(items)?;
+        if bound.kind != Kind::Num {
+            return Err(Unsound::WantsNumber("keep"));
+        }
+        self.same_columns(Action::Keep(bound.code))
+    }
+
+    fn make(self, make: &Make<'t>) -> Result<Bound<'t>, Unsound<'t>> {
+        let bound = self.bind(make.code.as_slice())?;
+        let mut columns = self.columns.all.clone()?;
         columns.push(Column {
-            name: named.name,
-            kind: folding.kind,
+            name: make.name,
+            kind: bound.kind,
         })?;
+        new_columns(columns, Action::Make(bound.code))
     }
-    new_columns(
-        before.text,
-        columns,
-        Action::Group(Grouping { keys, aggregations }),
-    )
-}
 
-fn order(heap: Global, before: Before<'_>, keys: &[SortKey]) -> Result<Bound, Unsound> {
-    let mut sort_columns = Vec::new(heap);
-    for key in keys.iter() {
-        let place = before.place(key.name)?;
-        sort_columns.push(SortColumn {
+    // Where columns of these names stand. No `map`: a closure that holds `Before`, or its columns and its line, was
+    // refused, since their references would stand at several lifetimes at once.
+    fn places(self, names: &[&'t [u8]]) -> Result<Vec<Place<'t>>, Unsound<'t>> {
+        let mut places = Vec::new(self.tables.heap);
+        for name in names.iter() {
+            places.push(self.place(*name)?)?;
+        }
+        Ok(places)
+    }
+
+    fn pick(self, names: &[&'t [u8]]) -> Result<Bound<'t>, Unsound<'t>> {
+        let places = self.places(names)?;
+        let columns = places
+            .iter()
+            .map(|place| place.column)
+            .collect(self.tables.heap)?;
+        let positions = places
+            .iter()
+            .map(|place| place.at)
+            .collect(self.tables.heap)?;
+        new_columns(columns, Action::Pick(positions))
+    }
+
+    fn join(self, join: Join<'t>) -> Result<Bound<'t>, Unsound<'t>> {
+        let table = self.tables.find(join.table)?;
+        let others = self.tables.columns_of(&self.tables.all[table])?.all;
+        let place = self.place(join.column)?;
+        let other_column = find(others.as_slice(), join.other_column).ok_or(Unsound::NotInTable(
+            join.other_column,
+            join.table,
+        ))?;
+        if others[other_column].kind != place.column.kind {
+            return Err(Unsound::TypesDiffer(join.column, join.other_column));
+        }
+        let mut columns = self.columns.all.clone()?;
+        columns.extend_from_slice(others.as_slice())?;
+        let action = Action::Join(JoinOn {
+            table,
             column: place.at,
-            down: key.down,
-        })?;
+            other_column,
+            other_width: others.len(),
+            stays: join.stays,
+        });
+        new_columns(columns, action)
     }
-    same_columns(heap, before, Action::Order(sort_columns))
-}
 
-fn same_names_and_kinds(text: &[u8], columns: &[Column], others: &[Column]) -> bool {
-    if columns.len() != others.len() {
-        return false;
+    fn of_column<F: FnOnce(usize) -> Aggregation>(
+        self,
+        name: &'t [u8],
+        of: F,
+    ) -> Result<Folding, Unsound<'t>>
+        requires { F.IsAlwaysCallable of }
+    {
+        let place = self.place(name)?;
+        Ok(Folding {
+            aggregation: of(place.at),
+            kind: place.column.kind,
+        })
     }
-    for (column, other) in columns.iter().zip(others.iter()) {
-        if !column.name.same(other.name, text) || column.kind != other.kind {
-            return false;
+
+    fn aggregate(self, aggregate: Aggregate<&'t [u8]>) -> Result<Folding, Unsound<'t>> {
+        match aggregate {
+            Aggregate::Count => Ok(Folding {
+                aggregation: Aggregate::Count,
+                kind: Kind::Num,
+            }),
+            Aggregate::Sum(name) => {
+                let sum = self.of_column(name, Aggregate::Sum)?;
+                match sum.kind {
+                    Kind::Num => Ok(sum),
+                    Kind::Word => Err(Unsound::SumOfWords(name)),
+                }
+            }
+            Aggregate::Min(name) => self.of_column(name, Aggregate::Min),
+            Aggregate::Max(name) => self.of_column(name, Aggregate::Max),
+            Aggregate::First(name) => self.of_column(name, Aggregate::First),
         }
     }
-    true
+
+    // No `map`, as in `places`.
+    fn group(self, group: &Group<'t>) -> Result<Bound<'t>, Unsound<'t>> {
+        let places = self.places(group.keys.as_slice())?;
+        let mut columns: Vec<Column> = places
+            .iter()
+            .map(|place| place.column)
+            .collect(self.tables.heap)?;
+        let keys = places
+            .iter()
+            .map(|place| place.at)
+            .collect(self.tables.heap)?;
+        let mut aggregations = Vec::new(self.tables.heap);
+        for named in group.aggregates.iter() {
+            let folding = self.aggregate(named.aggregate)?;
+            aggregations.push(folding.aggregation)?;
+            columns.push(Column {
+                name: named.name,
+                kind: folding.kind,
+            })?;
+        }
+        new_columns(columns, Action::Group(Grouping { keys, aggregations }))
+    }
+
+    // No `map`, as in `places`.
+    fn order(self, keys: &[SortKey<&'t [u8]>]) -> Result<Bound<'t>, Unsound<'t>> {
+        let mut sort_columns = Vec::new(self.tables.heap);
+        for key in keys.iter() {
+            sort_columns.push(SortKey {
+                column: self.place(key.column)?.at,
+                down: key.down,
+            })?;
+        }
+        self.same_columns(Action::Order(sort_columns))
+    }
+
+    fn unite(self, name: &'t [u8]) -> Result<Bound<'t>, Unsound<'t>> {
+        let table = self.tables.find(name)?;
+        let others = self.tables.columns_of(&self.tables.all[table])?;
+        if self.columns.all.as_slice() != others.all.as_slice() {
+            return Err(Unsound::OtherColumns(name, self.line));
+        }
+        self.same_columns(Action::Unite(table))
+    }
+
+    pub fn fit(self, step: &Step<'t>) -> Result<Bound<'t>, Unsound<'t>> {
+        match step {
+            Step::Keep(items) => self.keep(items.as_slice()),
+            Step::Make(made) => self.make(made),
+            Step::Pick(names) => self.pick(names.as_slice()),
+            Step::Join(joined) => self.join(*joined),
+            Step::Group(grouped) => self.group(grouped),
+            Step::Order(keys) => self.order(keys.as_slice()),
+            Step::Take(n) => self.same_columns(Action::Take(*n as usize)),
+            Step::Skip(n) => self.same_columns(Action::Skip(*n as usize)),
+            Step::Unite(name) => self.unite(*name),
+            Step::Distinct => self.same_columns(Action::Distinct),
+        }
+    }
 }
 
-fn unite(
-    heap: Global,
-    tables: &[TableDecl],
-    before: Before<'_>,
-    name: Span,
-) -> Result<Bound, Unsound> {
-    let table = find_table(before.text, tables, name)?;
-    let others = columns_of(heap, before.text, &tables[table])?;
-    if !same_names_and_kinds(before.text, before.columns, others.as_slice()) {
-        return Err(Unsound::OtherColumns(name, before.line));
-    }
-    same_columns(heap, before, Action::Unite(table))
-}
-
-pub fn fit(
-    heap: Global,
-    tables: &[TableDecl],
-    before: Before<'_>,
-    step: &Step,
-) -> Result<Bound, Unsound> {
-    match step {
-        Step::Keep(items) => keep(heap, before, items.as_slice()),
-        Step::Make(made) => make(heap, before, made),
-        Step::Pick(names) => pick(heap, before, names.as_slice()),
-        Step::Join(joined) => join(heap, tables, before, *joined),
-        Step::Group(grouped) => group(heap, before, grouped),
-        Step::Order(keys) => order(heap, before, keys.as_slice()),
-        Step::Take(n) => same_columns(heap, before, Action::Take(*n as usize)),
-        Step::Skip(n) => same_columns(heap, before, Action::Skip(*n as usize)),
-        Step::Unite(name) => unite(heap, tables, before, *name),
-        Step::Distinct => same_columns(heap, before, Action::Distinct),
-    }
+// What a step does that brings columns.
+fn new_columns<'t>(columns: Vec<Column<'t>>, action: Action) -> Result<Bound<'t>, Unsound<'t>> {
+    let columns = Columns::try_from(columns)?;
+    Ok(Bound { action, columns })
 }

@@ -2,10 +2,13 @@
 ghost use Rattle.std.specs.Prelude.{◌≤◌, vec_len};
 
 use reference_reading::questions::*;
-use reference_reading::spans::*;
 use reference_values::values::*;
 
+// How many words a page has.
+pub const PAGE_WORDS: u64 = 512;
+
 // An instruction of postfix code.
+// Not `Item`, `Join`, `Group`, `Step` over positions: here a null has no kind, a make no name, a join a width.
 #[derive(Clone, Copy)]
 pub enum Instruction {
     Push(Value),
@@ -16,20 +19,9 @@ pub enum Instruction {
     Choose,
 }
 
-#[derive(Clone, Copy)]
-pub enum Aggregation {
-    Sum(usize),
-    Count,
-    Min(usize),
-    Max(usize),
-    First(usize),
-}
+pub type Aggregation = Aggregate<usize>;
 
-#[derive(Clone, Copy)]
-pub struct SortColumn {
-    pub column: usize,
-    pub down: bool,
-}
+pub type SortColumn = SortKey<usize>;
 
 // The joined table, the columns that have to be equal, and how many columns the table has.
 #[derive(Clone, Copy)]
@@ -61,21 +53,25 @@ pub enum Action {
     Distinct,
 }
 
-// What a step does, and the columns behind it: one to 64.
+// Columns: one to 64.
 #[derive(Drop)]
-pub struct Bound {
-    pub action: Action,
-    pub columns: Vec<Column>,
-    ghost any: { 1 ≤ vec_len columns },
-    ghost few: { vec_len columns ≤ 64 },
+pub struct Columns<'t> {
+    pub all: Vec<Column<'t>>,
+    ghost any: { 1 ≤ vec_len all },
+    ghost few: { vec_len all ≤ 64 },
 }
 
-// The table to begin with, what to do step by step, and the columns behind the last step: one to 64.
+// What a step does, and the columns behind it.
 #[derive(Drop)]
-pub struct Plan {
+pub struct Bound<'t> {
+    pub action: Action,
+    pub columns: Columns<'t>,
+}
+
+// The table to begin with, what to do step by step, and the columns behind the last step.
+#[derive(Drop)]
+pub struct Plan<'t> {
     pub source: usize,
     pub actions: Vec<Action>,
-    pub columns: Vec<Column>,
-    ghost any: { 1 ≤ vec_len columns },
-    ghost few: { vec_len columns ≤ 64 },
+    pub columns: Columns<'t>,
 }

@@ -1,3 +1,3 @@
+pub mod Faults
 pub mod Lines
-pub mod Messages
-pub mod Spans
+pub mod Texts

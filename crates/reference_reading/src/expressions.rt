@@ -3,7 +3,6 @@ use crate::faults::*;
 use crate::lines::*;
 use crate::pieces::*;
 use crate::questions::*;
-use std::alloc::Global;
 
 #[derive(Clone, Copy)]
 enum Mark {
@@ -25,67 +24,74 @@ enum State {
 }
 
 // The larger the level, the tighter it binds; brackets and the parts of an `if` are open.
-const OPEN: u8 = 0;
+#[derive(Clone, Copy, PartialEq, Eq, PartialOrd, Ord)]
+enum Level {
+    Open,
+    Or,
+    And,
+    Comparison,
+    Sum,
+    Product,
+}
 
-const OR: u8 = 1;
-
-const AND: u8 = 2;
-
-const COMPARISON: u8 = 3;
-
-const SUM: u8 = 4;
-
-const PRODUCT: u8 = 5;
-
-fn level(operator: Operator) -> u8 {
-    match operator {
-        Operator::Or => OR,
-        Operator::And => AND,
-        Operator::Equal => COMPARISON,
-        Operator::Differ => COMPARISON,
-        Operator::Less => COMPARISON,
-        Operator::AtMost => COMPARISON,
-        Operator::Add => SUM,
-        Operator::Subtract => SUM,
-        Operator::Multiply => PRODUCT,
-        Operator::Divide => PRODUCT,
-        Operator::Remainder => PRODUCT,
+impl From<Operator> for Level {
+    fn from(operator: Operator) -> Level {
+        match operator {
+            Operator::Or => Level::Or,
+            Operator::And => Level::And,
+            Operator::Equal => Level::Comparison,
+            Operator::Differ => Level::Comparison,
+            Operator::Less => Level::Comparison,
+            Operator::AtMost => Level::Comparison,
+            Operator::Add => Level::Sum,
+            Operator::Subtract => Level::Sum,
+            Operator::Multiply => Level::Product,
+            Operator::Divide => Level::Product,
+            Operator::Remainder => Level::Product,
+        }
     }
 }
 
-fn sign_operator(sign: Sign) -> Option<Operator> {
-    match sign {
-        Sign::Equal => Some(Operator::Equal),
-        Sign::Differ => Some(Operator::Differ),
-        Sign::Less => Some(Operator::Less),
-        Sign::AtMost => Some(Operator::AtMost),
-        Sign::Plus => Some(Operator::Add),
-        Sign::Minus => Some(Operator::Subtract),
-        Sign::Times => Some(Operator::Multiply),
-        Sign::Over => Some(Operator::Divide),
-        Sign::Percent => Some(Operator::Remainder),
-        _ => None,
+impl From<Mark> for Level {
+    fn from(mark: Mark) -> Level {
+        match mark {
+            Mark::Operator(operator) => Level::from(operator),
+            Mark::Not => Level::Comparison,
+            _ => Level::Open,
+        }
     }
 }
 
-fn infix_operator(token: Token) -> Option<Operator> {
-    match token {
-        Token::Keyword(Keyword::Or) => Some(Operator::Or),
-        Token::Keyword(Keyword::And) => Some(Operator::And),
-        Token::Sign(sign) => sign_operator(sign),
-        _ => None,
+impl Token {
+    // The operator that stands between two values.
+    // An Option and no TryFrom: another token may end the expression, which is no error.
+    fn operator(self) -> Option<Operator> {
+        match self {
+            Token::Keyword(Keyword::Or) => Some(Operator::Or),
+            Token::Keyword(Keyword::And) => Some(Operator::And),
+            Token::Sign(Sign::Equal) => Some(Operator::Equal),
+            Token::Sign(Sign::Differ) => Some(Operator::Differ),
+            Token::Sign(Sign::Less) => Some(Operator::Less),
+            Token::Sign(Sign::AtMost) => Some(Operator::AtMost),
+            Token::Sign(Sign::Plus) => Some(Operator::Add),
+            Token::Sign(Sign::Minus) => Some(Operator::Subtract),
+            Token::Sign(Sign::Times) => Some(Operator::Multiply),
+            Token::Sign(Sign::Over) => Some(Operator::Divide),
+            Token::Sign(Sign::Percent) => Some(Operator::Remainder),
+            _ => None,
+        }
+    }
+
+    // Whether it ends a bracket or a part of an `if`.
+    fn ends_part(self) -> bool {
+        matches!(
+            self,
+            Token::Sign(Sign::Close) | Token::Keyword(Keyword::Then) | Token::Keyword(Keyword::Else)
+        )
     }
 }
 
 impl Mark {
-    fn level(self) -> u8 {
-        match self {
-            Mark::Operator(operator) => level(operator),
-            Mark::Not => COMPARISON,
-            _ => OPEN,
-        }
-    }
-
     // What ends the part that the mark opens.
     fn wants(self) -> Wanted {
         match self {
@@ -97,14 +103,14 @@ impl Mark {
 }
 
 #[derive(Drop)]
-struct Builder {
-    code: Vec<Item>,
+struct Builder<'t> {
+    code: Vec<Item<'t>>,
     marks: Vec<Mark>,
     state: State,
 }
 
-impl Builder {
-    fn feed(&mut self, piece: Piece) -> Result<(), Fault> {
+impl<'t> Builder<'t> {
+    fn feed(&mut self, piece: Piece<'t>) -> Result<(), Fault<'t>> {
         match self.state {
             State::Operand => self.operand(piece),
             State::BehindNone => self.behind_none(piece),
@@ -112,31 +118,31 @@ impl Builder {
         }
     }
 
-    fn value(&mut self, item: Item) -> Result<(), Fault> {
+    fn value(&mut self, item: Item<'t>) -> Result<(), Fault<'t>> {
         self.code.push(item)?;
         self.state = State::Operator;
         Ok(())
     }
 
-    fn open(&mut self, mark: Mark) -> Result<(), Fault> {
+    fn open(&mut self, mark: Mark) -> Result<(), Fault<'t>> {
         self.marks.push(mark)?;
         self.state = State::Operand;
         Ok(())
     }
 
-    fn operand(&mut self, piece: Piece) -> Result<(), Fault> {
+    fn operand(&mut self, piece: Piece<'t>) -> Result<(), Fault<'t>> {
         match piece.token {
             Token::Number(n) => self.value(Item::Number(n)),
             Token::Quoted(w) => self.value(Item::Word(w)),
-            Token::Name => self.value(Item::Column(piece.span)),
+            Token::Name => self.value(Item::Column(piece.text)),
             Token::Sign(Sign::Open) => self.open(Mark::Paren),
             Token::Keyword(keyword) => self.prefix(keyword, piece),
-            _ => Err(unexpected(Wanted::Value, piece)),
+            _ => Err(piece.instead_of(Wanted::Value)),
         }
     }
 
     // `if` may only begin an expression, and `not` stands only where a comparison may.
-    fn prefix(&mut self, keyword: Keyword, piece: Piece) -> Result<(), Fault> {
+    fn prefix(&mut self, keyword: Keyword, piece: Piece<'t>) -> Result<(), Fault<'t>> {
         match keyword {
             Keyword::None => {
                 self.state = State::BehindNone;
@@ -144,53 +150,43 @@ impl Builder {
             }
             Keyword::If if self.is_at_start() => self.open(Mark::If),
             Keyword::Not if self.may_compare() => self.open(Mark::Not),
-            _ => Err(unexpected(Wanted::Value, piece)),
+            _ => Err(piece.instead_of(Wanted::Value)),
         }
     }
 
     fn is_at_start(&self) -> bool {
-        match self.marks.last() {
-            Some(mark) => match *mark {
-                Mark::Not => false,
-                Mark::Operator(_) => false,
-                _ => true,
-            },
-            None => true,
-        }
+        !matches!(self.marks.last(), Some(Mark::Not | Mark::Operator(_)))
     }
 
     fn may_compare(&self) -> bool {
         match self.marks.last() {
-            Some(mark) => match *mark {
-                Mark::Operator(operator) => level(operator) < COMPARISON,
-                _ => true,
-            },
-            None => true,
+            Some(Mark::Operator(operator)) => Level::from(*operator) < Level::Comparison,
+            _ => true,
         }
     }
 
-    fn behind_none(&mut self, piece: Piece) -> Result<(), Fault> {
+    fn behind_none(&mut self, piece: Piece<'t>) -> Result<(), Fault<'t>> {
         match piece.token {
             Token::Sign(Sign::Open) => self.open(Mark::NonePart),
             Token::Keyword(Keyword::Num) => self.value(Item::Null(Kind::Num)),
             Token::Keyword(Keyword::Word) => self.value(Item::Null(Kind::Word)),
-            _ => Err(unexpected(Wanted::NoneOf, piece)),
+            _ => Err(piece.instead_of(Wanted::NoneOf)),
         }
     }
 
-    fn operator(&mut self, piece: Piece) -> Result<(), Fault> {
-        match infix_operator(piece.token) {
+    fn operator(&mut self, piece: Piece<'t>) -> Result<(), Fault<'t>> {
+        match piece.token.operator() {
             Some(operator) => self.infix(operator, piece),
             None => self.close(piece),
         }
     }
 
-    fn infix(&mut self, operator: Operator, piece: Piece) -> Result<(), Fault> {
-        let level = level(operator);
-        if level == COMPARISON {
-            self.settle(SUM)?;
+    fn infix(&mut self, operator: Operator, piece: Piece<'t>) -> Result<(), Fault<'t>> {
+        let level = Level::from(operator);
+        if level == Level::Comparison {
+            self.settle(Level::Sum)?;
             if !self.may_compare() {
-                return Err(unexpected(Wanted::Operator, piece));
+                return Err(piece.instead_of(Wanted::Operator));
             }
         } else {
             self.settle(level)?;
@@ -199,12 +195,8 @@ impl Builder {
     }
 
     // Writes the operators that wait and bind at least as tightly as `level`.
-    fn settle(&mut self, level: u8) -> Result<(), Fault> {
-        while let Some(mark) = self.marks.pop() {
-            if mark.level() < level {
-                self.marks.push(mark)?;
-                break;
-            }
+    fn settle(&mut self, level: Level) -> Result<(), Fault<'t>> {
+        while let Some(mark) = self.marks.pop_if(|mark| Level::from(*mark) >= level) {
             match mark {
                 Mark::Operator(operator) => self.code.push(Item::Apply(operator))?,
                 _ => self.code.push(Item::Not)?,
@@ -214,7 +206,7 @@ impl Builder {
     }
 
     // Writes all that waits up to an open bracket or part of an `if`, which is taken off.
-    fn unwind(&mut self) -> Result<Option<Mark>, Fault> {
+    fn unwind(&mut self) -> Result<Option<Mark>, Fault<'t>> {
         while let Some(mark) = self.marks.pop() {
             match mark {
                 Mark::Operator(operator) => self.code.push(Item::Apply(operator))?,
@@ -227,21 +219,21 @@ impl Builder {
     }
 
     // A piece that ends what stands before it.
-    fn close(&mut self, piece: Piece) -> Result<(), Fault> {
-        let Some(ending) = Ending::from_token(piece.token) else {
-            return Err(unexpected(Wanted::Operator, piece));
-        };
-        match (self.unwind()?, ending) {
-            (Some(Mark::Paren), Ending::Close) => Ok(()),
-            (Some(Mark::NonePart), Ending::Close) => self.value(Item::IsNull),
-            (Some(Mark::If), Ending::Then) => self.open(Mark::Then),
-            (Some(Mark::Then), Ending::Else) => self.open(Mark::Else),
-            (Some(mark), _) => Err(unexpected(mark.wants(), piece)),
-            (None, _) => Err(unexpected(Wanted::Operator, piece)),
+    fn close(&mut self, piece: Piece<'t>) -> Result<(), Fault<'t>> {
+        if !piece.token.ends_part() {
+            return Err(piece.instead_of(Wanted::Operator));
+        }
+        match (self.unwind()?, piece.token) {
+            (Some(Mark::Paren), Token::Sign(Sign::Close)) => Ok(()),
+            (Some(Mark::NonePart), Token::Sign(Sign::Close)) => self.value(Item::IsNull),
+            (Some(Mark::If), Token::Keyword(Keyword::Then)) => self.open(Mark::Then),
+            (Some(Mark::Then), Token::Keyword(Keyword::Else)) => self.open(Mark::Else),
+            (Some(mark), _) => Err(piece.instead_of(mark.wants())),
+            (None, _) => Err(piece.instead_of(Wanted::Operator)),
         }
     }
 
-    fn finish(&mut self) -> Result<(), Fault> {
+    fn finish(&mut self) -> Result<(), Fault<'t>> {
         match self.state {
             State::Operand => return Err(Fault::Ends(Wanted::Value)),
             State::BehindNone => return Err(Fault::Ends(Wanted::NoneOf)),
@@ -254,32 +246,15 @@ impl Builder {
     }
 }
 
-#[derive(Clone, Copy)]
-enum Ending {
-    Close,
-    Then,
-    Else,
-}
-
-impl Ending {
-    fn from_token(token: Token) -> Option<Ending> {
-        match token {
-            Token::Sign(Sign::Close) => Some(Ending::Close),
-            Token::Keyword(Keyword::Then) => Some(Ending::Then),
-            Token::Keyword(Keyword::Else) => Some(Ending::Else),
-            _ => None,
-        }
-    }
-}
-
 // The postfix code of the rest of the line.
-pub fn read_expression(heap: Global, line: &mut Line) -> Result<Vec<Item>, Fault> {
+pub fn read_expression<'t>(line: &mut Line<'t>) -> Result<Vec<Item<'t>>, Fault<'t>> {
+    let heap = line.heap();
     let mut builder = Builder {
         code: Vec::new(heap),
         marks: Vec::new(heap),
         state: State::Operand,
     };
-    while let Some(piece) = line.rest.pop() {
+    while let Some(piece) = line.pieces.pop_front() {
         builder.feed(piece)?;
     }
     builder.finish()?;

@@ -6,118 +6,113 @@ use crate::faults::*;
 use crate::lexing::*;
 use crate::pieces::*;
 use crate::questions::*;
-use crate::spans::*;
 use std::alloc::Global;
+use std::collections::VecDeque;
 
 #[derive(Drop)]
-pub struct Line {
-    // The pieces still to be read, the next one last.
-    pub rest: Vec<Piece>,
+pub struct Line<'t> {
+    // Counted from 1.
+    pub number: usize,
     // The line without blanks at its ends and without its note.
-    pub span: Span,
+    pub text: &'t [u8],
+    // What is still to be read.
+    pub pieces: VecDeque<Piece<'t>>,
 }
 
-fn first_start(pieces: &[Piece], otherwise: usize) -> usize {
-    match pieces.first() {
-        Some(piece) => piece.span.start,
-        None => otherwise,
-    }
-}
-
-fn last_end(pieces: &[Piece], otherwise: usize) -> usize {
-    match pieces.last() {
-        Some(piece) => piece.span.end,
-        None => otherwise,
-    }
-}
-
-impl Line {
-    pub fn cut(heap: Global, text: &[u8], line: Span) -> Result<Line, Fault> {
-        let mut rest = cut_line(heap, text, line)?;
-        let start = first_start(rest.as_slice(), line.end);
-        let end = last_end(rest.as_slice(), line.end);
-        rest.reverse();
+impl<'t> Line<'t> {
+    // Cuts a line into pieces, up to its end or a note.
+    pub fn cut(heap: Global, number: usize, line: &'t [u8]) -> Result<Line<'t>, Fault<'t>> {
+        let mut pieces = VecDeque::new(heap);
+        let mut rest = behind_blanks(line);
+        while let [first, ..] = rest {
+            if *first == b'#' {
+                break;
+            }
+            let Some(len) = piece_len(rest) else {
+                return Err(Fault::OpenQuote);
+            };
+            let (text, behind) = rest.split_at(len);
+            let token = Token::try_from(text)?;
+            pieces.push_back(Piece { token, text })?;
+            rest = behind_blanks(behind);
+        }
+        let text = line[..line.len() - rest.len()].trim_ascii();
         Ok(Line {
-            rest,
-            span: Span { start, end },
+            number,
+            text,
+            pieces,
         })
     }
 
-    pub fn peek(&self) -> Option<Piece> {
-        self.rest.last().copied()
+    pub fn heap(&self) -> Global {
+        *self.pieces.allocator()
+    }
+
+    pub fn is_over(&self) -> bool {
+        self.pieces.is_empty()
     }
 
     pub fn is_next(&self, token: Token) -> bool {
-        match self.peek() {
-            Some(piece) => piece.token == token,
-            None => false,
-        }
+        self.pieces
+            .front()
+            .is_some_and(|piece| piece.token == token)
     }
 
     // The next piece, which has to be there.
-    pub fn take(&mut self, wanted: Wanted) -> Result<Piece, Fault>
+    pub fn take(&mut self, wanted: Wanted) -> Result<Piece<'t>, Fault<'t>>
         ensures { OnOk result (Took self.old self.new) }
     {
-        match self.rest.pop() {
-            Some(piece) => Ok(piece),
-            None => Err(Fault::Ends(wanted)),
-        }
+        self.pieces.pop_front().ok_or(Fault::Ends(wanted))
     }
 
-    pub fn name(&mut self) -> Result<Span, Fault>
+    // name, number and kind differ in a pattern: a closure for it would save one line each.
+    pub fn name(&mut self) -> Result<&'t [u8], Fault<'t>>
         ensures { OnOk result (Took self.old self.new) }
     {
         let piece = self.take(Wanted::Name)?;
         match piece.token {
-            Token::Name => Ok(piece.span),
-            _ => Err(unexpected(Wanted::Name, piece)),
+            Token::Name => Ok(piece.text),
+            _ => Err(piece.instead_of(Wanted::Name)),
         }
     }
 
-    pub fn number(&mut self) -> Result<u64, Fault>
+    pub fn number(&mut self) -> Result<u64, Fault<'t>>
         ensures { OnOk result (Took self.old self.new) }
     {
         let piece = self.take(Wanted::Number)?;
         match piece.token {
             Token::Number(n) => Ok(n),
-            _ => Err(unexpected(Wanted::Number, piece)),
+            _ => Err(piece.instead_of(Wanted::Number)),
         }
     }
 
-    pub fn kind(&mut self) -> Result<Kind, Fault>
+    pub fn kind(&mut self) -> Result<Kind, Fault<'t>>
         ensures { OnOk result (Took self.old self.new) }
     {
         let piece = self.take(Wanted::Type)?;
         match piece.token {
             Token::Keyword(Keyword::Num) => Ok(Kind::Num),
             Token::Keyword(Keyword::Word) => Ok(Kind::Word),
-            _ => Err(unexpected(Wanted::Type, piece)),
+            _ => Err(piece.instead_of(Wanted::Type)),
         }
     }
 
-    pub fn expect(&mut self, token: Token, wanted: Wanted) -> Result<(), Fault>
+    pub fn expect(&mut self, token: Token, wanted: Wanted) -> Result<(), Fault<'t>>
         ensures { OnOk result (Took self.old self.new) }
     {
         let piece = self.take(wanted)?;
         if piece.token == token {
             Ok(())
         } else {
-            Err(unexpected(wanted, piece))
+            Err(piece.instead_of(wanted))
         }
     }
 
     // Nothing may come behind.
-    pub fn end(&self) -> Result<(), Fault> {
-        match self.peek() {
-            Some(piece) => Err(unexpected(Wanted::End, piece)),
+    pub fn end(&self) -> Result<(), Fault<'t>> {
+        match self.pieces.front() {
+            Some(piece) => Err(piece.instead_of(Wanted::End)),
             None => Ok(()),
         }
-    }
-}
-
-pub fn unexpected(wanted: Wanted, piece: Piece) -> Fault {
-    Fault::Found {
-        wanted,
-        found: piece.span,
     }
 }

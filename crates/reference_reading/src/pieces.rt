@@ -1,5 +1,5 @@
 // The words of the language, and the pieces of a line.
-use crate::spans::*;
+use crate::faults::*;
 
 #[derive(Clone, Copy, PartialEq, Eq)]
 pub enum Keyword {
@@ -61,51 +61,56 @@ pub enum Token {
     Quoted(u64),
 }
 
-// A piece of a line, and where it stands.
+// A piece of a line, and how it is written.
 #[derive(Clone, Copy)]
-pub struct Piece {
+pub struct Piece<'t> {
     pub token: Token,
-    pub span: Span,
+    pub text: &'t [u8],
 }
 
-const KEYWORDS: [(&[u8], Keyword); 28] = [
-    (b"table", Keyword::Table),
-    (b"num", Keyword::Num),
-    (b"word", Keyword::Word),
-    (b"from", Keyword::From),
-    (b"keep", Keyword::Keep),
-    (b"make", Keyword::Make),
-    (b"pick", Keyword::Pick),
-    (b"join", Keyword::Join),
-    (b"left", Keyword::Left),
-    (b"on", Keyword::On),
-    (b"group", Keyword::Group),
-    (b"order", Keyword::Order),
-    (b"take", Keyword::Take),
-    (b"skip", Keyword::Skip),
-    (b"unite", Keyword::Unite),
-    (b"distinct", Keyword::Distinct),
-    (b"sum", Keyword::Sum),
-    (b"count", Keyword::Count),
-    (b"min", Keyword::Min),
-    (b"max", Keyword::Max),
-    (b"first", Keyword::First),
-    (b"and", Keyword::And),
-    (b"or", Keyword::Or),
-    (b"not", Keyword::Not),
-    (b"none", Keyword::None),
-    (b"if", Keyword::If),
-    (b"then", Keyword::Then),
-    (b"else", Keyword::Else),
-];
+impl<'t> Piece<'t> {
+    // That it stands where something else is wanted.
+    pub fn instead_of(self, wanted: Wanted) -> Fault<'t> {
+        Fault::Found {
+            wanted,
+            found: self.text,
+        }
+    }
+}
 
 impl Keyword {
+    // An Option and no TryFrom: what is no keyword is a name, so there is no error to tell.
     pub fn from_bytes(word: &[u8]) -> Option<Keyword> {
-        for (bytes, keyword) in KEYWORDS {
-            if bytes == word {
-                return Some(keyword);
-            }
-        }
-        None
+        Some(match word {
+            b"table" => Keyword::Table,
+            b"num" => Keyword::Num,
+            b"word" => Keyword::Word,
+            b"from" => Keyword::From,
+            b"keep" => Keyword::Keep,
+            b"make" => Keyword::Make,
+            b"pick" => Keyword::Pick,
+            b"join" => Keyword::Join,
+            b"left" => Keyword::Left,
+            b"on" => Keyword::On,
+            b"group" => Keyword::Group,
+            b"order" => Keyword::Order,
+            b"take" => Keyword::Take,
+            b"skip" => Keyword::Skip,
+            b"unite" => Keyword::Unite,
+            b"distinct" => Keyword::Distinct,
+            b"sum" => Keyword::Sum,
+            b"count" => Keyword::Count,
+            b"min" => Keyword::Min,
+            b"max" => Keyword::Max,
+            b"first" => Keyword::First,
+            b"and" => Keyword::And,
+            b"or" => Keyword::Or,
+            b"not" => Keyword::Not,
+            b"none" => Keyword::None,
+            b"if" => Keyword::If,
+            b"then" => Keyword::Then,
+            b"else" => Keyword::Else,
+            _ => return None,
+        })
     }
 }

@@ -1,101 +1,90 @@
 // Reads a whole text: tables first, then `from`, then steps, a line each. Lines without pieces say nothing.
-ghost use Rattle.std.specs.Prelude.{◌≤◌, length};
+ghost use Rattle.std.specs.Iterator.{at_most};
+ghost use Rattle.std.specs.Prelude.{length};
+ghost use Rattle.reference_reading.specs.Texts.{TakesLine};
 
 use crate::faults::*;
 use crate::lines::*;
 use crate::pieces::*;
 use crate::questions::*;
-use crate::spans::*;
 use crate::statements::*;
 use std::alloc::Global;
 
-// What a line says.
+// The lines that are left of a text, without their ends.
+// Not std's `split_inclusive`: it leaves the line ends, and of these lines it is proved that they have none.
 #[derive(Drop)]
-enum Said {
-    Nothing,
-    Table(TableDecl),
-    Source(Source),
-    Step(Statement),
+struct Lines<'t> {
+    rest: &'t [u8],
 }
 
-// A line before `from`, or `from` itself.
-fn read_head(heap: Global, number: usize, text: &[u8], span: Span) -> Result<Said, Fault> {
-    let mut line = Line::cut(heap, text, span)?;
-    let Some(piece) = line.rest.pop() else {
-        return Ok(Said::Nothing);
-    };
-    match piece.token {
-        Token::Keyword(Keyword::Table) => Ok(Said::Table(read_table(heap, number, &mut line)?)),
-        Token::Keyword(Keyword::From) => Ok(Said::Source(read_source(number, &mut line)?)),
-        _ => Err(unexpected(Wanted::TableOrFrom, piece)),
-    }
-}
+impl<'t> Iterator for Lines<'t> {
+    type Item = &'t [u8];
 
-// A line behind `from`.
-fn read_tail(heap: Global, number: usize, text: &[u8], span: Span) -> Result<Said, Fault> {
-    let mut line = Line::cut(heap, text, span)?;
-    if line.peek().is_none() {
-        return Ok(Said::Nothing);
+    ghost next_gives = { TakesLine };
+
+    ghost remaining = { λ lines. at_most (length lines.rest.now) };
+
+    fn next(&mut self) -> Option<&'t [u8]> {
+        let rest = self.rest;
+        if rest.is_empty() {
+            return None;
+        }
+        let end = rest
+            .iter()
+            .position(|byte| *byte == b'\n')
+            .unwrap_or(rest.len());
+        self.rest = rest.get(end + 1..).unwrap_or(b"");
+        Some(&rest[..end])
     }
-    Ok(Said::Step(read_step(heap, number, &mut line)?))
 }
 
 // A question of which only some lines are read.
 #[derive(Drop)]
-struct Draft {
-    tables: Vec<TableDecl>,
-    source: Option<Source>,
-    steps: Vec<Statement>,
+struct Draft<'t> {
+    tables: Vec<TableDecl<'t>>,
+    source: Option<Source<'t>>,
+    steps: Vec<Statement<'t>>,
 }
 
-impl Draft {
-    fn add(&mut self, heap: Global, number: usize, text: &[u8], span: Span) -> Result<(), Fault> {
-        let said = match self.source {
-            None => read_head(heap, number, text, span)?,
-            Some(_) => read_tail(heap, number, text, span)?,
-        };
-        match said {
-            Said::Nothing => {}
-            Said::Table(table) => self.tables.push(table)?,
-            Said::Source(source) => self.source = Some(source),
-            Said::Step(statement) => self.steps.push(statement)?,
+impl<'t> Draft<'t> {
+    // A line before `from`, or `from` itself.
+    fn head(&mut self, mut line: Line<'t>) -> Result<(), Fault<'t>> {
+        let piece = line.take(Wanted::TableOrFrom)?;
+        match piece.token {
+            Token::Keyword(Keyword::Table) => self.tables.push(read_table(&mut line)?)?,
+            Token::Keyword(Keyword::From) => self.source = Some(read_source(&mut line)?),
+            _ => return Err(piece.instead_of(Wanted::TableOrFrom)),
         }
+        Ok(())
+    }
+
+    fn add(&mut self, number: usize, text: &'t [u8]) -> Result<(), Fault<'t>> {
+        let heap = *self.tables.allocator();
+        let mut line = Line::cut(heap, number, text)?;
+        if line.is_over() {
+            return Ok(());
+        }
+        if self.source.is_none() {
+            return self.head(line);
+        }
+        self.steps.push(read_step(&mut line)?)?;
         Ok(())
     }
 }
 
-// How many bytes stand before the end of the first line.
-fn line_len(text: &[u8]) -> usize
-    ensures { result ≤ length text.now }
-{
-    for (i, byte) in text.iter().enumerate() {
-        if *byte == b'\n' {
-            return i;
-        }
-    }
-    text.len()
-}
-
 // The question that a text asks, or the first line that is wrong.
-pub fn read(heap: Global, text: &[u8]) -> Result<Question, NotAQuestion> {
+pub fn read<'t>(heap: Global, text: &'t [u8]) -> Result<Question<'t>, NotAQuestion<'t>> {
     let mut draft = Draft {
         tables: Vec::new(heap),
         source: None,
         steps: Vec::new(heap),
     };
-    let mut number: usize = 0;
-    let mut start = 0;
-    while start < text.len() {
-        number = number.saturating_add(1);
-        let end = start + line_len(&text[start..]);
-        let span = Span { start, end };
-        if let Err(fault) = draft.add(heap, number, text, span) {
-            return Err(NotAQuestion {
-                line: number,
-                fault,
-            });
-        }
-        start = end.saturating_add(1);
+    let mut last = 1;
+    for (line, text) in (1..).zip(Lines { rest: text }) {
+        last = line;
+        draft
+            .add(line, text)
+            .map_err(|fault| NotAQuestion { line, fault })?;
     }
     let Draft {
         tables,
@@ -109,7 +98,7 @@ pub fn read(heap: Global, text: &[u8]) -> Result<Question, NotAQuestion> {
             steps,
         }),
         None => Err(NotAQuestion {
-            line: number.max(1),
+            line: last,
             fault: Fault::NoFrom,
         }),
     }

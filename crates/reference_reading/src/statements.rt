@@ -7,48 +7,68 @@ use crate::faults::*;
 use crate::lines::*;
 use crate::pieces::*;
 use crate::questions::*;
-use crate::spans::*;
-use std::alloc::Global;
 
-fn column(line: &mut Line) -> Result<StoredColumn, Fault>
-    ensures { OnOk result (Shrank line.old line.new) }
-{
-    let name = line.name()?;
-    let kind = line.kind()?;
-    let page = line.number()?;
-    let column = Column { name, kind };
-    Ok(StoredColumn { column, page })
+// What stands in a line several times, one behind the other.
+trait Item<'t>: Sized {
+    fn read(line: &mut Line<'t>) -> Result<Self, Fault<'t>>
+        ensures { OnOk result (Shrank line.old line.new) };
+}
+
+// A name.
+impl<'t> Item<'t> for &'t [u8] {
+    fn read(line: &mut Line<'t>) -> Result<&'t [u8], Fault<'t>> {
+        line.name()
+    }
+}
+
+impl<'t> Item<'t> for StoredColumn<'t> {
+    fn read(line: &mut Line<'t>) -> Result<StoredColumn<'t>, Fault<'t>> {
+        let name = line.name()?;
+        let kind = line.kind()?;
+        let page = line.number()?;
+        let column = Column { name, kind };
+        Ok(StoredColumn { column, page })
+    }
+}
+
+impl<'t> Item<'t> for SortKey<&'t [u8]> {
+    fn read(line: &mut Line<'t>) -> Result<SortKey<&'t [u8]>, Fault<'t>> {
+        let down = line.is_next(Token::Sign(Sign::Minus));
+        if down {
+            line.expect(Token::Sign(Sign::Minus), Wanted::Name)?;
+        }
+        let column = line.name()?;
+        Ok(SortKey { column, down })
+    }
+}
+
+// The items up to the end of the line.
+fn items<'t, T: Item<'t> + Drop>(line: &mut Line<'t>) -> Result<Vec<T>, Fault<'t>> {
+    let mut items = Vec::new(line.heap());
+    while !line.is_over() {
+        items.push(T::read(line)?)?;
+    }
+    Ok(items)
 }
 
 // NAME ROWS, then a name, a type and a page for each column.
-pub fn read_table(heap: Global, number: usize, line: &mut Line) -> Result<TableDecl, Fault> {
+pub fn read_table<'t>(line: &mut Line<'t>) -> Result<TableDecl<'t>, Fault<'t>> {
     let name = line.name()?;
     let rows = line.number()?;
-    let mut columns = Vec::new(heap);
-    while line.peek().is_some() {
-        columns.push(column(line)?)?;
-    }
+    let columns = items(line)?;
     Ok(TableDecl {
-        line: number,
+        line: line.number,
         name,
         rows,
         columns,
     })
 }
 
-fn names(heap: Global, line: &mut Line) -> Result<Vec<Span>, Fault> {
-    let mut names = Vec::new(heap);
-    while line.peek().is_some() {
-        names.push(line.name()?)?;
-    }
-    Ok(names)
-}
-
 // Names up to the colon, which is taken too.
-fn group_keys(heap: Global, line: &mut Line) -> Result<Vec<Span>, Fault> {
-    let mut keys = Vec::new(heap);
+fn group_keys<'t>(line: &mut Line<'t>) -> Result<Vec<&'t [u8]>, Fault<'t>> {
+    let mut keys = Vec::new(line.heap());
     while !line.is_next(Token::Sign(Sign::Colon)) {
-        if line.peek().is_none() {
+        if line.is_over() {
             return Err(Fault::Ends(Wanted::Colon));
         }
         keys.push(line.name()?)?;
@@ -57,7 +77,7 @@ fn group_keys(heap: Global, line: &mut Line) -> Result<Vec<Span>, Fault> {
     Ok(keys)
 }
 
-fn aggregate(line: &mut Line) -> Result<Aggregate, Fault>
+fn aggregate<'t>(line: &mut Line<'t>) -> Result<Aggregate<&'t [u8]>, Fault<'t>>
     ensures { OnOk result (Shrank line.old line.new) }
 {
     let piece = line.take(Wanted::Aggregate)?;
@@ -67,11 +87,11 @@ fn aggregate(line: &mut Line) -> Result<Aggregate, Fault>
         Token::Keyword(Keyword::Min) => Ok(Aggregate::Min(line.name()?)),
         Token::Keyword(Keyword::Max) => Ok(Aggregate::Max(line.name()?)),
         Token::Keyword(Keyword::First) => Ok(Aggregate::First(line.name()?)),
-        _ => Err(unexpected(Wanted::Aggregate, piece)),
+        _ => Err(piece.instead_of(Wanted::Aggregate)),
     }
 }
 
-fn named_aggregate(line: &mut Line) -> Result<NamedAggregate, Fault>
+fn named_aggregate<'t>(line: &mut Line<'t>) -> Result<NamedAggregate<'t>, Fault<'t>>
     ensures { OnOk result (Shrank line.old line.new) }
 {
     let name = line.name()?;
@@ -81,37 +101,18 @@ fn named_aggregate(line: &mut Line) -> Result<NamedAggregate, Fault>
 }
 
 // At least one aggregate, commas between them.
-fn aggregates(heap: Global, line: &mut Line) -> Result<Vec<NamedAggregate>, Fault> {
-    let mut aggregates = Vec::new(heap);
+fn aggregates<'t>(line: &mut Line<'t>) -> Result<Vec<NamedAggregate<'t>>, Fault<'t>> {
+    let mut aggregates = Vec::new(line.heap());
     aggregates.push(named_aggregate(line)?)?;
-    while line.peek().is_some() {
+    while !line.is_over() {
         line.expect(Token::Sign(Sign::Comma), Wanted::Comma)?;
         aggregates.push(named_aggregate(line)?)?;
     }
     Ok(aggregates)
 }
 
-fn sort_key(line: &mut Line) -> Result<SortKey, Fault>
-    ensures { OnOk result (Shrank line.old line.new) }
-{
-    let down = line.is_next(Token::Sign(Sign::Minus));
-    if down {
-        line.expect(Token::Sign(Sign::Minus), Wanted::Name)?;
-    }
-    let name = line.name()?;
-    Ok(SortKey { name, down })
-}
-
-fn sort_keys(heap: Global, line: &mut Line) -> Result<Vec<SortKey>, Fault> {
-    let mut keys = Vec::new(heap);
-    while line.peek().is_some() {
-        keys.push(sort_key(line)?)?;
-    }
-    Ok(keys)
-}
-
 // TABLE on COLUMN = COLUMN
-fn join(line: &mut Line, stays: bool) -> Result<Join, Fault> {
+fn join<'t>(line: &mut Line<'t>, stays: bool) -> Result<Join<'t>, Fault<'t>> {
     let table = line.name()?;
     line.expect(Token::Keyword(Keyword::On), Wanted::On)?;
     let column = line.name()?;
@@ -125,62 +126,62 @@ fn join(line: &mut Line, stays: bool) -> Result<Join, Fault> {
     })
 }
 
-fn left_join(line: &mut Line) -> Result<Join, Fault> {
+fn left_join<'t>(line: &mut Line<'t>) -> Result<Join<'t>, Fault<'t>> {
     line.expect(Token::Keyword(Keyword::Join), Wanted::Join)?;
     join(line, true)
 }
 
-fn make(heap: Global, line: &mut Line) -> Result<Make, Fault> {
+fn make<'t>(line: &mut Line<'t>) -> Result<Make<'t>, Fault<'t>> {
     let name = line.name()?;
     line.expect(Token::Sign(Sign::Gets), Wanted::Gets)?;
-    let code = read_expression(heap, line)?;
+    let code = read_expression(line)?;
     Ok(Make { name, code })
 }
 
-fn group(heap: Global, line: &mut Line) -> Result<Group, Fault> {
-    let keys = group_keys(heap, line)?;
-    let aggregates = aggregates(heap, line)?;
+fn group<'t>(line: &mut Line<'t>) -> Result<Group<'t>, Fault<'t>> {
+    let keys = group_keys(line)?;
+    let aggregates = aggregates(line)?;
     Ok(Group { keys, aggregates })
 }
 
 // The table behind `from`.
-pub fn read_source(number: usize, line: &mut Line) -> Result<Source, Fault> {
+pub fn read_source<'t>(line: &mut Line<'t>) -> Result<Source<'t>, Fault<'t>> {
     let table = line.name()?;
     line.end()?;
     Ok(Source {
-        line: number,
-        span: line.span,
+        line: line.number,
+        text: line.text,
         table,
     })
 }
 
-fn step(heap: Global, line: &mut Line) -> Result<Step, Fault> {
+fn step<'t>(line: &mut Line<'t>) -> Result<Step<'t>, Fault<'t>> {
     let piece = line.take(Wanted::Step)?;
     let Token::Keyword(keyword) = piece.token else {
-        return Err(unexpected(Wanted::Step, piece));
+        return Err(piece.instead_of(Wanted::Step));
     };
     match keyword {
-        Keyword::Keep => Ok(Step::Keep(read_expression(heap, line)?)),
-        Keyword::Make => Ok(Step::Make(make(heap, line)?)),
-        Keyword::Pick => Ok(Step::Pick(names(heap, line)?)),
+        Keyword::Keep => Ok(Step::Keep(read_expression(line)?)),
+        Keyword::Make => Ok(Step::Make(make(line)?)),
+        Keyword::Pick => Ok(Step::Pick(items(line)?)),
         Keyword::Join => Ok(Step::Join(join(line, false)?)),
         Keyword::Left => Ok(Step::Join(left_join(line)?)),
-        Keyword::Group => Ok(Step::Group(group(heap, line)?)),
-        Keyword::Order => Ok(Step::Order(sort_keys(heap, line)?)),
+        Keyword::Group => Ok(Step::Group(group(line)?)),
+        Keyword::Order => Ok(Step::Order(items(line)?)),
         Keyword::Take => Ok(Step::Take(line.number()?)),
         Keyword::Skip => Ok(Step::Skip(line.number()?)),
         Keyword::Unite => Ok(Step::Unite(line.name()?)),
         Keyword::Distinct => Ok(Step::Distinct),
-        _ => Err(unexpected(Wanted::Step, piece)),
+        _ => Err(piece.instead_of(Wanted::Step)),
     }
 }
 
-pub fn read_step(heap: Global, number: usize, line: &mut Line) -> Result<Statement, Fault> {
-    let step = step(heap, line)?;
+pub fn read_step<'t>(line: &mut Line<'t>) -> Result<Statement<'t>, Fault<'t>> {
+    let step = step(line)?;
     line.end()?;
     Ok(Statement {
-        line: number,
-        span: line.span,
+        line: line.number,
+        text: line.text,
         step,
     })
 }

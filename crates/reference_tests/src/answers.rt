@@ -18,7 +18,6 @@ fn null_key_joins_nothing(rt: HostRuntime) -> Result<(), Fail> {
     let pages = keyed(rt.alloc())?;
     pages.expect(
         &rt,
-        rt.alloc(),
         "table a 4 k num 0 x num 1\ntable b 3 j num 2 y num 3\nfrom a\njoin b on k = j\n",
         "1,11,1,21\n1,11,1,22\n",
     )
@@ -29,7 +28,6 @@ fn left_row_stays_once(rt: HostRuntime) -> Result<(), Fail> {
     let pages = keyed(rt.alloc())?;
     pages.expect(
         &rt,
-        rt.alloc(),
         "table a 4 k num 0 x num 1\ntable b 3 j num 2 y num 3\nfrom a\nleft join b on k = j\n",
         ",10,,\n1,11,1,21\n1,11,1,22\n2,12,,\n,13,,\n",
     )
@@ -40,7 +38,6 @@ fn nulls_are_one_group(rt: HostRuntime) -> Result<(), Fail> {
     let pages = keyed(rt.alloc())?;
     pages.expect(
         &rt,
-        rt.alloc(),
         "table a 4 k num 0 x num 1\nfrom a\ngroup k : n = count, s = sum x, l = min x, f = first k\n",
         ",2,23,10,\n1,1,11,11,1\n2,1,12,12,2\n",
     )
@@ -63,7 +60,6 @@ fn large_sum_stays_null(rt: HostRuntime) -> Result<(), Fail> {
     ])?;
     pages.expect(
         &rt,
-        rt.alloc(),
         "table t 8 k num 0 x num 1\nfrom t\ngroup k : s = sum x",
         "1,\n2,9223372036854775807\n",
     )
@@ -76,7 +72,6 @@ fn sums_and_bests_leave_nulls_out(rt: HostRuntime) -> Result<(), Fail> {
     pages.column(&[NULL, NULL, NULL, NULL])?;
     pages.expect(
         &rt,
-        rt.alloc(),
         "table t 4 x num 0 y num 1\nfrom t\ngroup : s = sum x, l = min x, m = max x, f = first x, z = sum y, w = max y\n",
         "10,3,7,,0,\n",
     )
@@ -89,7 +84,6 @@ fn order_and_take_stay_apart(rt: HostRuntime) -> Result<(), Fail> {
     pages.column(&[0, 1, 2, 3, 4])?;
     pages.expect_all(
         &rt,
-        rt.alloc(),
         "table t 5 x num 0 i num 1\nfrom t\n",
         &[
             ("take 2\norder x", "1,1\n3,0\n"),
@@ -107,7 +101,6 @@ fn unused_column_is_harmless(rt: HostRuntime) -> Result<(), Fail> {
     pages.column(&[4, 0, 2])?;
     pages.expect(
         &rt,
-        rt.alloc(),
         "table t 3 x num 0\nfrom t\nmake y = 8 / x\nmake z = y / 0\nkeep x < 4\npick x\n",
         "0\n2\n",
     )
@@ -120,7 +113,6 @@ fn distinct_and_pick_stay_apart(rt: HostRuntime) -> Result<(), Fail> {
     pages.column(&[1, 2, 3, 1, 3])?;
     pages.expect_all(
         &rt,
-        rt.alloc(),
         "table t 5 x num 0 y num 1\nfrom t\n",
         &[
             ("pick x\ndistinct", "1\n\n"),
@@ -148,7 +140,6 @@ fn whole_pages_and_one_more(rt: HostRuntime) -> Result<(), Fail> {
         let head = format!(in heap; "table t {rows} x num 0\nfrom t\n")?;
         pages.expect_all(
             &rt,
-            heap,
             head.as_str(),
             &[("group : n = count, m = max x, s = sum x", expected)],
         )?;
@@ -161,7 +152,6 @@ fn no_rows_print_nothing(rt: HostRuntime) -> Result<(), Fail> {
     let pages = keyed(rt.alloc())?;
     pages.expect_all(
         &rt,
-        rt.alloc(),
         "table a 4 k num 0 x num 1\ntable e 0 k num 4\n",
         &[
             ("from a\nkeep x < 5", ""),
@@ -180,7 +170,6 @@ fn cells_of_another_type_are_null(rt: HostRuntime) -> Result<(), Fail> {
     pages.column(&[7, seven, NULL, 0x8000_0000_0000_0000, 0x8100_0000_0000_0000])?;
     pages.expect(
         &rt,
-        rt.alloc(),
         "table t 5 x num 0 y word 0\nfrom t\n",
         "7,\n,'abcdefg'\n,\n,''\n,\n",
     )

@@ -1,13 +1,11 @@
 // Texts that are deep or long.
 use crate::tables::*;
 use std::alloc::{AllocError, Global};
+use std::iter;
 use std::test::*;
 
-fn repeat(text: &mut String, part: &str, times: u32) -> Result<(), AllocError> {
-    for _ in 0..times {
-        text.push_str(part)?;
-    }
-    Ok(())
+fn repeat(text: &mut String, part: &str, times: usize) -> Result<(), AllocError> {
+    text.extend(iter::repeat_n(part, times))
 }
 
 fn one_column(heap: Global) -> Result<PageFile, AllocError> {
@@ -24,11 +22,10 @@ fn nested_parentheses(rt: HostRuntime) -> Result<(), Fail> {
     repeat(&mut text, "(", 100_000)?;
     text.push_str("x")?;
     repeat(&mut text, ")", 100_000)?;
-    pages.expect(&rt, heap, text.as_str(), "3\n")?;
+    pages.expect(&rt, text.as_str(), "3\n")?;
     text.push(')')?;
     pages.expect(
         &rt,
-        heap,
         text.as_str(),
         "ask: not a question: line 3: an operator or the end of the expression expected, ')' found",
     )
@@ -43,7 +40,7 @@ fn nested_nots_and_choices(rt: HostRuntime) -> Result<(), Fail> {
     text.push_str("x\nmake y = ")?;
     repeat(&mut text, "if x then 1 else ", 10_000)?;
     text.push_str("2")?;
-    pages.expect(&rt, heap, text.as_str(), "0,2\n")
+    pages.expect(&rt, text.as_str(), "0,2\n")
 }
 
 #[test]
@@ -52,5 +49,5 @@ fn long_line(rt: HostRuntime) -> Result<(), Fail> {
     let pages = one_column(heap)?;
     let mut text = String::from_str(heap, "table t 2 x num 0\nfrom t\nmake y = x")?;
     repeat(&mut text, " + 1 ", 200_000)?;
-    pages.expect(&rt, heap, text.as_str(), "3,200003\n0,200000\n")
+    pages.expect(&rt, text.as_str(), "3,200003\n0,200000\n")
 }

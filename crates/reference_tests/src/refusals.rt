@@ -1,6 +1,7 @@
 // Every reason for a refusal: a question on each line, its own lines parted by semicolons, and its message.
 use crate::tables::*;
 use std::alloc::{AllocError, Global};
+use std::fmt::Write;
 use std::process::Abort;
 use std::test::*;
 
@@ -77,39 +78,37 @@ from t; unite s => line 4: table 's' has other columns than stand behind 'from t
 
 // A question's text, a line for each part.
 fn lines(heap: Global, text: &str) -> Result<String, AllocError> {
-    let mut lines = String::new(heap);
-    for c in text.chars() {
-        lines.push(if c == ';' { '\n' } else { c })?;
-    }
-    Ok(lines)
+    text.chars()
+        .map(|c| if c == ';' { '\n' } else { c })
+        .collect(heap)
 }
 
+// How many cases there are, all of which come to what they say.
 fn expect_list(
     rt: &impl Abort,
-    heap: Global,
     pages: &PageFile,
     head: &str,
     verdict: &str,
     list: &str,
-) -> Result<u32, Fail> {
-    let mut count: u32 = 0;
-    for case in list.lines() {
-        if let Some((text, reason)) = case.split_once(" => ") {
-            let steps = lines(heap, text)?;
-            let line = format!(in heap; "ask: {verdict}: {reason}")?;
-            pages.expect_all(rt, heap, head, &[(steps.as_str(), line.as_str())])?;
-            count = count.saturating_add(1);
-        }
+) -> Result<usize, Fail> {
+    let heap = pages.heap();
+    let cases: Vec<(&str, &str)> = list
+        .lines()
+        .filter_map(|case| case.split_once(" => "))
+        .collect(heap)?;
+    for (text, reason) in cases.iter() {
+        let steps = lines(heap, *text)?;
+        let line = format!(in heap; "ask: {verdict}: {reason}")?;
+        pages.expect_all(rt, head, &[(steps.as_str(), line.as_str())])?;
     }
-    Ok(count)
+    Ok(cases.len())
 }
 
 #[test]
 fn not_questions(rt: HostRuntime) -> Result<(), Fail> {
-    let heap = rt.alloc();
-    let pages = PageFile::new(heap);
+    let pages = PageFile::new(rt.alloc());
     assert_eq!(rt;
-        expect_list(&rt, heap, &pages, "", "not a question", NOT_QUESTIONS)?,
+        expect_list(&rt, &pages, "", "not a question", NOT_QUESTIONS)?,
         37
     );
     Ok(())
@@ -117,14 +116,10 @@ fn not_questions(rt: HostRuntime) -> Result<(), Fail> {
 
 #[test]
 fn unsound_questions(rt: HostRuntime) -> Result<(), Fail> {
-    let heap = rt.alloc();
-    let mut pages = PageFile::new(heap);
+    let mut pages = PageFile::new(rt.alloc());
     pages.column(&[1])?;
     pages.column(&[word(b"a")])?;
-    assert_eq!(rt;
-        expect_list(&rt, heap, &pages, TABLES, "not sound", UNSOUND)?,
-        26
-    );
+    assert_eq!(rt; expect_list(&rt, &pages, TABLES, "not sound", UNSOUND)?, 26);
     Ok(())
 }
 
@@ -136,12 +131,11 @@ fn too_many_columns(rt: HostRuntime) -> Result<(), Fail> {
     pages.column(&[1])?;
     let mut text = String::from_str(heap, "table t 1")?;
     for i in 0..65u32 {
-        text.push_str(format!(in heap; " c{i} num 0")?.as_str())?;
+        write!(text, " c{i} num 0")?;
     }
     text.push_str("\nfrom t")?;
     pages.expect(
         &rt,
-        heap,
         text.as_str(),
         "ask: not sound: line 1: 65 columns, more than 64",
     )

@@ -2,6 +2,7 @@
 use asking::replies::*;
 use asking::reply;
 use std::alloc::{AllocError, Global};
+use std::iter;
 use std::process::Abort;
 use std::test::*;
 
@@ -11,11 +12,12 @@ const PAGE_BYTES: usize = 4096;
 
 // The cell of a word.
 pub fn word(bytes: &[u8]) -> u64 {
-    let mut number: u64 = 0x80;
-    for i in 0..7 {
-        number = (number << 8) | u64::from(bytes.get(i).copied().unwrap_or(0));
-    }
-    number
+    bytes
+        .iter()
+        .copied()
+        .chain(iter::repeat(0))
+        .take(7)
+        .fold(0x80, |number, byte| (number << 8) | u64::from(byte))
 }
 
 // A page file in the making.
@@ -31,6 +33,10 @@ impl PageFile {
         }
     }
 
+    pub fn heap(&self) -> Global {
+        *self.bytes.allocator()
+    }
+
     // A column more, on pages of its own.
     pub fn column(&mut self, cells: &[u64]) -> Result<(), AllocError> {
         for cell in cells.iter() {
@@ -41,62 +47,43 @@ impl PageFile {
 
     // A column of the numbers 0, 1, 2, ..
     pub fn counting(&mut self, rows: u64) -> Result<(), AllocError> {
-        for cell in 0..rows {
-            self.bytes.extend_from_slice(&cell.to_le_bytes())?;
-        }
-        self.fill_page()
+        let cells: Vec<u64> = (0..rows).collect(self.heap())?;
+        self.column(cells.as_slice())
     }
 
     fn fill_page(&mut self) -> Result<(), AllocError> {
-        let used = self.bytes.len() % PAGE_BYTES;
-        if used > 0 {
-            for _ in used..PAGE_BYTES {
-                self.bytes.push(0)?;
-            }
-        }
-        Ok(())
+        self.bytes
+            .resize(self.bytes.len().next_multiple_of(PAGE_BYTES), 0)
     }
 
     // Each question, behind the same first lines, comes to what stands beside it.
     pub fn expect_all(
         &self,
         rt: &impl Abort,
-        heap: Global,
         head: &str,
         cases: &[(&str, &str)],
     ) -> Result<(), Fail> {
         for (steps, expected) in cases.iter() {
-            let mut text = String::from_str(heap, head)?;
+            let mut text = String::from_str(self.heap(), head)?;
             text.push_str(*steps)?;
-            self.expect(rt, heap, text.as_str(), *expected)?;
+            self.expect(rt, text.as_str(), *expected)?;
         }
         Ok(())
     }
 
     // A question comes to these lines, or is refused by this one.
-    pub fn expect(
-        &self,
-        rt: &impl Abort,
-        heap: Global,
-        text: &str,
-        expected: &str,
-    ) -> Result<(), Fail> {
-        match reply(heap, text.as_bytes(), "test.pages", self.bytes.as_slice()) {
-            Ok(rows) => match std::str::from_utf8(rows.as_slice()) {
-                Ok(lines) => {
-                    assert_eq!(rt; lines, expected);
-                    Ok(())
-                },
-                Err(_) => {
-                    assert_eq!(rt; rows.as_slice(), expected.as_bytes());
-                    Ok(())
-                },
-            },
-            Err(Failure::Said(line)) => {
-                assert_eq!(rt; line.as_str(), expected);
-                Ok(())
-            },
-            Err(Failure::OutOfMemory) => Err(Fail::new("out of memory")),
-        }
+    pub fn expect(&self, rt: &impl Abort, text: &str, expected: &str) -> Result<(), Fail> {
+        let said = match reply(
+            self.heap(),
+            text.as_bytes(),
+            "test.pages",
+            self.bytes.as_slice(),
+        ) {
+            Ok(rows) => String::from_utf8_lossy(self.heap(), rows.as_slice())?,
+            Err(Failure::Said(line)) => line,
+            Err(Failure::OutOfMemory) => return Err(Fail::new("out of memory")),
+        };
+        assert_eq!(rt; said.as_str(), expected);
+        Ok(())
     }
 }

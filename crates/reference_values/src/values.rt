@@ -1,10 +1,11 @@
 // Values and what operators make of them. The order of the variants is the order of values: null is the least.
 ghost use Rattle.std.specs.Prelude.{not, ◌≡◌};
 ghost use Rattle.meaning.specs.Steps.{add_to_sum, is_true, not_null};
-ghost use Rattle.meaning.specs.Values.{and3, apply_op, bit, if3, is_null, not3, num_or_null, of_truth, or3, truth};
+ghost use Rattle.meaning.specs.Values.{apply_op, bit, if3, is_null, not3, num_or_null, of_truth, truth};
 ghost use Rattle.reference_values.specs.Values.{compared, computed, meant, meant_op, meant_truth, meant_type, stored};
 
 use crate::kinds::*;
+use std::ops::Not;
 
 #[derive(Clone, Copy, PartialEq, Eq, PartialOrd, Ord, Debug)]
 pub enum Value {
@@ -15,49 +16,73 @@ pub enum Value {
 }
 
 // 2^63: numbers are below it, and words on a page begin with it.
-const NUMBER_LIMIT: u64 = 0x8000_0000_0000_0000;
+pub const NUMBER_LIMIT: u64 = 0x8000_0000_0000_0000;
 
 // 2^56
 const WORD_LIMIT: u64 = 0x0100_0000_0000_0000;
 
-#[derive(Clone, Copy)]
+// In this order `and` is the least of two truths and `or` the largest.
+#[derive(Clone, Copy, PartialEq, Eq, PartialOrd, Ord)]
 enum Truth {
-    True,
     False,
     Unknown,
+    True,
 }
 
-impl Truth {
-    fn and(self, other: Truth) -> Truth
-        ensures { meant_truth result ≡ and3 (meant_truth self) (meant_truth other) }
-    {
-        match (self, other) {
-            (Truth::False, _) => Truth::False,
-            (_, Truth::False) => Truth::False,
-            (Truth::True, Truth::True) => Truth::True,
-            (_, _) => Truth::Unknown,
-        }
-    }
+impl Not for Truth {
+    type Output = Truth;
 
-    fn or(self, other: Truth) -> Truth
-        ensures { meant_truth result ≡ or3 (meant_truth self) (meant_truth other) }
-    {
-        match (self, other) {
-            (Truth::True, _) => Truth::True,
-            (_, Truth::True) => Truth::True,
-            (Truth::False, Truth::False) => Truth::False,
-            (_, _) => Truth::Unknown,
-        }
-    }
+    ghost not_gives = { λ t r. meant_truth r ≡ not3 (meant_truth t) };
 
-    fn value(self) -> Value
-        ensures { meant result ≡ of_truth (meant_truth self) }
-    {
+    fn not(self) -> Truth {
         match self {
-            Truth::True => Value::Number(1),
+            Truth::False => Truth::True,
+            Truth::Unknown => Truth::Unknown,
+            Truth::True => Truth::False,
+        }
+    }
+}
+
+impl From<Value> for Truth {
+    ghost from_gives = { λ v t. meant_truth t ≡ truth (meant v) };
+
+    fn from(value: Value) -> Truth {
+        match value {
+            Value::Number(0) => Truth::False,
+            Value::Number(_) => Truth::True,
+            Value::Null | Value::Word(_) => Truth::Unknown,
+        }
+    }
+}
+
+impl From<Truth> for Value {
+    ghost from_gives = { λ t v. meant v ≡ of_truth (meant_truth t) };
+
+    fn from(truth: Truth) -> Value {
+        match truth {
             Truth::False => Value::Number(0),
             Truth::Unknown => Value::Null,
+            Truth::True => Value::Number(1),
         }
+    }
+}
+
+// 1 or 0
+impl From<bool> for Value {
+    ghost from_gives = { λ b v. meant v ≡ bit b };
+
+    fn from(holds: bool) -> Value {
+        Value::Number(u64::from(holds))
+    }
+}
+
+impl Not for Value {
+    type Output = Value;
+
+    ghost not_gives = { λ v r. meant r ≡ of_truth (not3 (truth (meant v))) };
+
+    fn not(self) -> Value {
+        Value::from(!Truth::from(self))
     }
 }
 
@@ -67,20 +92,11 @@ impl Value {
         ensures { meant result ≡ stored (meant_type kind) cell }
     {
         match kind {
-            Kind::Num => {
-                if cell < NUMBER_LIMIT {
-                    Value::Number(cell)
-                } else {
-                    Value::Null
-                }
-            }
-            Kind::Word => {
-                if cell >= NUMBER_LIMIT && cell - NUMBER_LIMIT < WORD_LIMIT {
-                    Value::Word(cell - NUMBER_LIMIT)
-                } else {
-                    Value::Null
-                }
-            }
+            Kind::Num => Value::number(cell),
+            Kind::Word => match cell.checked_sub(NUMBER_LIMIT) {
+                Some(word) if word < WORD_LIMIT => Value::Word(word),
+                _ => Value::Null,
+            },
         }
     }
 
@@ -94,16 +110,6 @@ impl Value {
         }
     }
 
-    fn truth(self) -> Truth
-        ensures { meant_truth result ≡ truth (meant self) }
-    {
-        match self {
-            Value::Number(0) => Truth::False,
-            Value::Number(_) => Truth::True,
-            _ => Truth::Unknown,
-        }
-    }
-
     pub fn is_null(self) -> bool
         ensures value { bit result ≡ is_null (meant self) }
         ensures there { not_null (meant self) ≡ not result }
@@ -114,30 +120,13 @@ impl Value {
     pub fn is_true(self) -> bool
         ensures { result ≡ is_true (meant self) }
     {
-        matches!(self.truth(), Truth::True)
-    }
-
-    pub fn not(self) -> Value
-        ensures { meant result ≡ of_truth (not3 (truth (meant self))) }
-    {
-        match self.truth() {
-            Truth::True => Value::Number(0),
-            Truth::False => Value::Number(1),
-            Truth::Unknown => Value::Null,
-        }
-    }
-
-    // 1 or 0
-    pub fn of_bool(holds: bool) -> Value
-        ensures { meant result ≡ bit holds }
-    {
-        Value::Number(u64::from(holds))
+        matches!(Truth::from(self), Truth::True)
     }
 
     pub fn choose(self, yes: Value, no: Value) -> Value
         ensures { meant result ≡ if3 (truth (meant self)) (meant yes) (meant no) }
     {
-        match self.truth() {
+        match Truth::from(self) {
             Truth::True => yes,
             Truth::False => no,
             Truth::Unknown => Value::Null,
@@ -149,10 +138,10 @@ impl Value {
         ensures { meant result ≡ compared (meant_op operator) a b }
     {
         match operator {
-            Operator::Equal => Value::of_bool(a == b),
-            Operator::Differ => Value::of_bool(a != b),
-            Operator::Less => Value::of_bool(a < b),
-            Operator::AtMost => Value::of_bool(a <= b),
+            Operator::Equal => Value::from(a == b),
+            Operator::Differ => Value::from(a != b),
+            Operator::Less => Value::from(a < b),
+            Operator::AtMost => Value::from(a <= b),
             _ => Value::Null,
         }
     }
@@ -162,11 +151,11 @@ impl Value {
         ensures { meant result ≡ computed (meant_op operator) a b }
     {
         match operator {
-            Operator::Add => Value::number(a.saturating_add(b)),
-            Operator::Multiply => Value::number(a.saturating_mul(b)),
-            Operator::Subtract if a >= b => Value::Number(a - b),
-            Operator::Divide if b != 0 => Value::Number(a / b),
-            Operator::Remainder if b != 0 => Value::Number(a % b),
+            Operator::Add => a.checked_add(b).map_or(Value::Null, Value::number),
+            Operator::Multiply => a.checked_mul(b).map_or(Value::Null, Value::number),
+            Operator::Subtract => a.checked_sub(b).map_or(Value::Null, Value::Number),
+            Operator::Divide => a.checked_div(b).map_or(Value::Null, Value::Number),
+            Operator::Remainder => a.checked_rem(b).map_or(Value::Null, Value::Number),
             _ => Value::compare(operator, a, b),
         }
     }
@@ -175,8 +164,8 @@ impl Value {
         ensures { meant result ≡ apply_op (meant_op operator) (meant a) (meant b) }
     {
         match operator {
-            Operator::And => a.truth().and(b.truth()).value(),
-            Operator::Or => a.truth().or(b.truth()).value(),
+            Operator::And => Value::from(Truth::from(a).min(Truth::from(b))),
+            Operator::Or => Value::from(Truth::from(a).max(Truth::from(b))),
             _ => match (a, b) {
                 (Value::Number(x), Value::Number(y)) => Value::compute(operator, x, y),
                 (Value::Word(x), Value::Word(y)) => Value::compare(operator, x, y),

@@ -1,24 +1,24 @@
--- Bytes as digits of base 256, one after the other.
-use Rattle.std.proofs.Common.{◌≡◌, ℕ, zero, suc, ◌+◌, ◌-◌, ◌*◌, ◌^◌, ◌<◌, ◌≤◌, List, [], ◌∷◌, get_or, drop, sym, refl, ap, ◌∙◌, add-one, arith, lit<}
-use native.Mathlib.Nat.{pow-succ', pow-le-pow_right}
-use Rattle.meaning.specs.Values.{base_256}
+-- At most seven bytes, behind a zero and filled up with zeros to eight, as a number: that of their word.
+use Rattle.std.proofs.Common.{◌≡◌, ℕ, ◌<◌, ◌≤◌, List, [], ◌∷◌, ◌++◌, length, drop, slice_index, Fits, w8, w64, arith}
+use Rattle.std.specs.Int.{from_be_bytes}
+use Rattle.meaning.specs.Values.{word_number, word_limit}
 
-digit : (i n : ℕ) (bytes : List ℕ) (acc : ℕ) → base_256 (suc n) (drop i bytes) acc ≡ base_256 n (drop (suc i) bytes) (256 * acc + get_or bytes i 0)
-digit zero n [] acc = let e : 256 * acc ≡ 256 * acc + 0 = omega arith in ap (base_256 n []) e
-digit zero n (b ∷ bytes) acc = refl
-digit (suc i) n [] acc = let e : 256 * acc ≡ 256 * acc + 0 = omega arith in ap (base_256 n []) e
-digit (suc i) n (b ∷ bytes) acc = digit i n bytes acc
+abbrev pub digits : List ℕ → ℕ → List ℕ
+digits bytes n = 0 ∷ bytes ++ drop n (0 ∷ 0 ∷ 0 ∷ 0 ∷ 0 ∷ 0 ∷ 0 ∷ [])
 
--- one digit more
-pub one_more : (i : ℕ) (bytes : List ℕ) (acc acc' all : ℕ) → i < 7 → acc' ≡ 256 * acc + get_or bytes i 0 → base_256 (7 - i) (drop i bytes) acc ≡ all → base_256 (7 - (i + 1)) (drop (i + 1) bytes) acc' ≡ all
-one_more i bytes acc acc' all h e p =
-    let k : 7 - i ≡ suc (7 - (i + 1)) = omega arith in
-    ap (base_256 (7 - (i + 1)) (drop (i + 1) bytes)) e
-    ∙ (ap (λ j. base_256 (7 - (i + 1)) (drop j bytes) (256 * acc + get_or bytes i 0)) (add-one i)
-    ∙ (sym (digit i (7 - (i + 1)) bytes acc) ∙ (ap (λ n. base_256 n (drop i bytes) acc) (sym k) ∙ p)))
+abbrev pub IsWord : ℕ → List ℕ → Type 0
+IsWord m bytes = (m ≡ word_number bytes) × (m < word_limit)
 
-pub below_more : (i n b : ℕ) → n < 256 ^ i → b < 256 → 256 * n + b < 256 ^ (i + 1)
-below_more i n b h k = let e : 256 ^ (i + 1) ≡ 256 * 256 ^ i = ap (λ j. 256 ^ j) (add-one i) ∙ pow-succ' 256 i in omega arith
+is_word : (bytes : List ℕ) → length bytes ≤ 7 → ((i : ℕ) → Fits w8 (slice_index bytes i)) → IsWord (from_be_bytes w64 (digits bytes (length bytes))) bytes
+is_word [] h b = (omega arith, omega arith)
+is_word (x ∷ []) h b = (omega arith, omega (arith, b 0))
+is_word (x ∷ y ∷ []) h b = (omega arith, omega (arith, b 0, b 1))
+is_word (x ∷ y ∷ z ∷ []) h b = (omega arith, omega (arith, b 0, b 1, b 2))
+is_word (x ∷ y ∷ z ∷ u ∷ []) h b = (omega arith, omega (arith, b 0, b 1, b 2, b 3))
+is_word (x ∷ y ∷ z ∷ u ∷ v ∷ []) h b = (omega arith, omega (arith, b 0, b 1, b 2, b 3, b 4))
+is_word (x ∷ y ∷ z ∷ u ∷ v ∷ w ∷ []) h b = (omega arith, omega (arith, b 0, b 1, b 2, b 3, b 4, b 5))
+is_word (x ∷ y ∷ z ∷ u ∷ v ∷ w ∷ t ∷ []) h b = (omega arith, omega (arith, b 0, b 1, b 2, b 3, b 4, b 5, b 6))
+is_word (x ∷ y ∷ z ∷ u ∷ v ∷ w ∷ t ∷ s ∷ rest) h b = (omega arith, omega arith)
 
-pub below_limit : (i n : ℕ) → i ≤ 7 → n < 256 ^ i → n < 72057594037927936
-below_limit i n h k = let p : 256 ^ i ≤ 256 ^ 7 = pow-le-pow_right (lit< tt) h in omega arith
+pub digits_are_word : {m n : ℕ} {copied bytes : List ℕ} → length bytes ≤ 7 → ((i : ℕ) → Fits w8 (slice_index bytes i)) → copied ≡ bytes → n ≡ length bytes → m ≡ from_be_bytes w64 (digits copied n) → IsWord m bytes
+digits_are_word {m} {n} {copied} {bytes} h b is at e = rw (e, is, at) (is_word bytes h b)

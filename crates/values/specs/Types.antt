@@ -2,7 +2,7 @@
 use Rattle.std.proofs.Math.Option.{Option, some, none}
 use Rattle.std.specs.Prelude.{ℕ, Some, None, Option as Given}
 use Rattle.meaning.specs.Values.{Value as V, null, num, word, Ty, t_num, t_word, Truth as Tr, yes, no, unknown, Arith, op_add, op_sub, op_mul, op_div, op_rem, Compare, op_eq, op_ne, op_lt, op_le, Logic as Lg, op_and, op_or, Op, op_arith, op_compare, op_logic}
-use Rattle.values.specs.declared.types.Word.{Word as W}
+use Rattle.values.specs.declared.word.Word.{Word as W}
 use Rattle.values.specs.declared.types.Value.{Value}
 use Rattle.values.specs.declared.types.Value.TheVariants.{Null, Number, Word}
 use Rattle.values.specs.declared.types.Kind.{Kind}

@@ -3,15 +3,14 @@ ghost use Rattle.meaning.specs.Values.{cell};
 ghost use Rattle.values.specs.Types.{value_of, type_of_kind};
 ghost use Rattle.values.specs.Cells.{from_cell, from_stored, key, KeyOrder};
 
-use crate::types::{Kind, Number, Value, Word};
-use crate::value::NUMBER_LIMIT;
+use crate::number::NUMBER_LIMIT;
+use crate::types::{Kind, Value};
+use crate::word::Word;
 
 // The cell of null.
 pub const NULL_CELL: u64 = 0xffff_ffff_ffff_ffff;
 
-// 2^56: the numbers of words are below it.
-pub const WORD_LIMIT: u64 = 0x0100_0000_0000_0000;
-
+// A u64 is a number, a word's number and a key too, so these are methods and no From.
 impl Value {
     // The word of a page that stands for it.
     pub fn to_cell(self) -> u64
@@ -29,14 +28,9 @@ impl Value {
     pub fn from_cell(word: u64) -> Value
         ensures { value_of result ≡ from_cell word }
     {
-        if word < NUMBER_LIMIT {
-            Value::Number(Number { value: word })
-        } else if word - NUMBER_LIMIT < WORD_LIMIT {
-            Value::Word(Word {
-                number: word - NUMBER_LIMIT,
-            })
-        } else {
-            Value::Null
+        match word.checked_sub(NUMBER_LIMIT) {
+            None => Value::number(word),
+            Some(number) => Word::try_from(number).map_or(Value::Null, Value::Word),
         }
     }
 
@@ -46,8 +40,7 @@ impl Value {
     {
         let v = Value::from_cell(word);
         match (kind, v) {
-            (Kind::Number, Value::Number(_)) => v,
-            (Kind::Word, Value::Word(_)) => v,
+            (Kind::Number, Value::Number(_)) | (Kind::Word, Value::Word(_)) => v,
             _ => Value::Null,
         }
     }
@@ -66,8 +59,6 @@ pub fn key_word(word: u64, descending: bool) -> u64
 }
 
 // Comparing key words as numbers is the order of values.
-pub fn key_words_order() -> u8
+pub fn key_words_order()
     ensures { KeyOrder }
-{
-    0
-}
+{}

@@ -2,6 +2,7 @@
 #![tactic(auto)]
 
 pub mod cells;
+pub mod number;
 pub mod truth;
 pub mod types;
 pub mod value;

@@ -1,69 +1,57 @@
 ghost use Rattle.std.specs.Prelude.{◌≡◌};
-ghost use Rattle.meaning.specs.Values.{and3, or3, not3, by_logic, if3, of_truth};
+ghost use Rattle.meaning.specs.Values.{truth, of_truth, not3, by_logic, if3};
 ghost use Rattle.values.specs.Types.{value_of, truth_of, logic_of};
 
 use crate::types::{Logic, Truth, Value};
+use std::ops::Not;
 
-impl Truth {
-    fn and(self, other: Truth) -> Truth
-        ensures { truth_of result ≡ and3 (truth_of self) (truth_of other) }
-    {
-        match (self, other) {
-            (Truth::True, Truth::True) => Truth::True,
-            (Truth::True, Truth::False) => Truth::False,
-            (Truth::True, Truth::Unknown) => Truth::Unknown,
-            (Truth::False, Truth::True) => Truth::False,
-            (Truth::False, Truth::False) => Truth::False,
-            (Truth::False, Truth::Unknown) => Truth::False,
-            (Truth::Unknown, Truth::True) => Truth::Unknown,
-            (Truth::Unknown, Truth::False) => Truth::False,
-            (Truth::Unknown, Truth::Unknown) => Truth::Unknown,
+// A number is true if it isn't 0.
+impl From<Value> for Truth {
+    ghost from_gives = { λ v t. truth_of t ≡ truth (value_of v) };
+
+    fn from(v: Value) -> Truth {
+        match v {
+            Value::Number(n) if n.value == 0 => Truth::False,
+            Value::Number(_) => Truth::True,
+            Value::Null | Value::Word(_) => Truth::Unknown,
         }
     }
+}
 
-    fn or(self, other: Truth) -> Truth
-        ensures { truth_of result ≡ or3 (truth_of self) (truth_of other) }
-    {
-        match (self, other) {
-            (Truth::True, Truth::True) => Truth::True,
-            (Truth::True, Truth::False) => Truth::True,
-            (Truth::True, Truth::Unknown) => Truth::True,
-            (Truth::False, Truth::True) => Truth::True,
-            (Truth::False, Truth::False) => Truth::False,
-            (Truth::False, Truth::Unknown) => Truth::Unknown,
-            (Truth::Unknown, Truth::True) => Truth::True,
-            (Truth::Unknown, Truth::False) => Truth::Unknown,
-            (Truth::Unknown, Truth::Unknown) => Truth::Unknown,
+// 1, 0 or null.
+impl From<Truth> for Value {
+    ghost from_gives = { λ t v. value_of v ≡ of_truth (truth_of t) };
+
+    fn from(t: Truth) -> Value {
+        match t {
+            Truth::True => Value::number(1),
+            Truth::False => Value::number(0),
+            Truth::Unknown => Value::Null,
         }
     }
+}
 
-    pub fn not(self) -> Truth
-        ensures { truth_of result ≡ not3 (truth_of self) }
-    {
+impl Not for Truth {
+    type Output = Truth;
+
+    ghost not_gives = { λ t u. truth_of u ≡ not3 (truth_of t) };
+
+    fn not(self) -> Truth {
         match self {
-            Truth::True => Truth::False,
             Truth::False => Truth::True,
             Truth::Unknown => Truth::Unknown,
+            Truth::True => Truth::False,
         }
     }
+}
 
+impl Truth {
     pub(crate) fn apply(self, logic: Logic, other: Truth) -> Truth
         ensures { truth_of result ≡ by_logic (logic_of logic) (truth_of self) (truth_of other) }
     {
         match logic {
-            Logic::And => self.and(other),
-            Logic::Or => self.or(other),
-        }
-    }
-
-    // 1, 0 or null.
-    pub fn value(self) -> Value
-        ensures { value_of result ≡ of_truth (truth_of self) }
-    {
-        match self {
-            Truth::True => Value::number(1),
-            Truth::False => Value::number(0),
-            Truth::Unknown => Value::Null,
+            Logic::And => self.min(other),
+            Logic::Or => self.max(other),
         }
     }
 

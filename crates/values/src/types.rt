@@ -1,22 +1,8 @@
-ghost use Rattle.std.specs.Prelude.{◌<◌};
-ghost use Rattle.meaning.specs.Values.{num_limit, word_limit};
+use crate::number::Number;
+use crate::word::Word;
 
-// A number below 2^63.
-#[derive(Clone, Copy)]
-pub struct Number {
-    pub value: u64,
-    ghost below: { value < num_limit },
-}
-
-// A word of at most seven bytes, by its number: seven digits of base 256, the first byte the highest.
-#[derive(Clone, Copy)]
-pub struct Word {
-    pub number: u64,
-    ghost below: { number < word_limit },
-}
-
-// Null, a number or a word.
-#[derive(Clone, Copy)]
+// A value: null is the least, and numbers are below words. An enum has no model, so contracts say value_of.
+#[derive(Clone, Copy, Debug, PartialEq, Eq, PartialOrd, Ord)]
 pub enum Value {
     Null,
     Number(Number),
@@ -24,21 +10,21 @@ pub enum Value {
 }
 
 // The type of a column, and of what an expression comes to.
-#[derive(Clone, Copy)]
+#[derive(Clone, Copy, Debug, PartialEq, Eq)]
 pub enum Kind {
     Number,
     Word,
 }
 
-// Three-valued logic.
-#[derive(Clone, Copy)]
+// Three-valued logic, the least true first; an Option<bool> would put unknown below false.
+#[derive(Clone, Copy, Debug, PartialEq, Eq, PartialOrd, Ord)]
 pub enum Truth {
-    True,
     False,
     Unknown,
+    True,
 }
 
-#[derive(Clone, Copy)]
+#[derive(Clone, Copy, Debug, PartialEq, Eq)]
 pub enum Arithmetic {
     Add,
     Subtract,
@@ -47,7 +33,7 @@ pub enum Arithmetic {
     Remainder,
 }
 
-#[derive(Clone, Copy)]
+#[derive(Clone, Copy, Debug, PartialEq, Eq)]
 pub enum Comparison {
     Equal,
     NotEqual,
@@ -55,13 +41,13 @@ pub enum Comparison {
     LessOrEqual,
 }
 
-#[derive(Clone, Copy)]
+#[derive(Clone, Copy, Debug, PartialEq, Eq)]
 pub enum Logic {
     And,
     Or,
 }
 
-#[derive(Clone, Copy)]
+#[derive(Clone, Copy, Debug, PartialEq, Eq)]
 pub enum Operator {
     Arithmetic(Arithmetic),
     Comparison(Comparison),

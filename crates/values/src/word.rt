@@ -1,30 +1,54 @@
-ghost use Rattle.std.specs.Prelude.{◌≡◌, ◌<◌, length, nat_le, slice_index};
-ghost use Rattle.std.proofs.Math.Option.{some};
-ghost use Rattle.meaning.specs.Base.{when};
-ghost use Rattle.meaning.specs.Values.{word_number};
-ghost use Rattle.values.specs.Types.{number_of_word};
+ghost use Rattle.std.specs.Prelude.{◌≡◌, ◌<◌, ◌≤◌, length, MatchResult};
+ghost use Rattle.meaning.specs.Values.{word_limit, word_number};
 
-use crate::types::Word;
+use crate::number::TooLarge;
 
-impl Word {
-    // The word of these bytes, if there are at most seven.
-    pub fn from_bytes(bytes: &[u8]) -> Option<Word>
-        ensures { number_of_word result ≡ when (nat_le (length bytes.now) 7) (some (word_number bytes.now)) }
-    {
-        if bytes.len() > 7 {
-            return None;
+// 2^56: the numbers of words are below it.
+const WORD_LIMIT: u64 = 0x0100_0000_0000_0000;
+
+// A word of at most seven bytes, by its number: seven digits of base 256, the first byte the highest.
+#[derive(Clone, Copy, Debug, PartialEq, Eq, PartialOrd, Ord)]
+pub struct Word {
+    pub number: u64,
+    ghost below: { number < word_limit },
+}
+
+// More than seven bytes.
+#[derive(Clone, Copy, Debug, PartialEq, Eq)]
+pub struct WordTooLong;
+
+// The word of this number.
+impl TryFrom<u64> for Word {
+    type Error = TooLarge;
+
+    ghost try_from_gives = { λ n r. MatchResult r (λ w. w.number ≡ n) (λ e. (e.0 ≡ n) × (word_limit ≤ n)) };
+
+    fn try_from(number: u64) -> Result<Word, TooLarge> {
+        if number < WORD_LIMIT {
+            Ok(Word { number })
+        } else {
+            Err(TooLarge(number))
         }
-        let mut number = 0;
-        for i in 0..7 {
-            number = 256 * number + byte_or_zero(bytes, i);
-        }
-        Some(Word { number })
     }
 }
 
-// The byte at a place, or 0 behind the end.
-fn byte_or_zero(bytes: &[u8], i: usize) -> u64
-    ensures { (result ≡ slice_index bytes.now i) × (result < 256) }
-{
-    if i < bytes.len() { bytes[i] as u64 } else { 0 }
+// The word of these bytes, if there are at most seven.
+impl TryFrom<&[u8]> for Word {
+    type Error = WordTooLong;
+
+    ghost try_from_gives = { λ bytes r. MatchResult r
+        (λ w. (length bytes.now ≤ 7) × (w.number ≡ word_number bytes.now))
+        (λ _. 7 < length bytes.now) };
+
+    #[tactic(auto, using(crate::proofs::Digits::digits_are_word))]
+    fn try_from(bytes: &[u8]) -> Result<Word, WordTooLong> {
+        if bytes.len() > 7 {
+            return Err(WordTooLong);
+        }
+        let mut digits = [0; 8];
+        digits[1..=bytes.len()].copy_from_slice(bytes);
+        Ok(Word {
+            number: u64::from_be_bytes(digits),
+        })
+    }
 }

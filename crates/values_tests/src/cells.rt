@@ -1,5 +1,7 @@
 use values::cells::{NULL_CELL, key_word};
-use values::types::{Kind, Value, Word};
+use values::number::{Number, TooLarge};
+use values::types::{Kind, Value};
+use values::word::{Word, WordTooLong};
 
 const NULL: u64 = NULL_CELL;
 
@@ -21,8 +23,7 @@ fn other_types_are_null(rt: HostRuntime) {
         (NULL - 1, NULL, NULL),
         (NULL, NULL, NULL),
     ];
-    for row in &table {
-        let (word, number, text) = *row;
+    for &(word, number, text) in &table {
         assert_eq!(rt; Value::number(word).to_cell(), number);
         assert_eq!(rt; Value::from_stored(Kind::Number, word).to_cell(), number);
         assert_eq!(rt; Value::from_stored(Kind::Word, word).to_cell(), text);
@@ -38,21 +39,28 @@ fn keys_and_values_have_one_order(rt: HostRuntime) {
             key_word(a, false) < key_word(b, false) && key_word(b, true) < key_word(a, true)
         );
         let (x, y) = (Value::from_cell(a), Value::from_cell(b));
-        assert!(rt; x.is_less(y) && !y.is_less(x) && !x.equals(y) && x.equals(x));
-    }
-}
-
-// The number of a word, or the cell of null if there is no such word.
-fn word_number(bytes: &[u8]) -> u64 {
-    match Word::from_bytes(bytes) {
-        Some(word) => word.number,
-        None => NULL,
+        assert!(rt; x < y && !(y < x) && x != y && x == Value::from_cell(a));
     }
 }
 
 #[test]
+fn numbers_at_their_limits(rt: HostRuntime) {
+    assert!(rt; Number::try_from(LARGEST).is_ok());
+    assert_eq!(rt; Number::try_from(FIRST_WORD), Err(TooLarge(FIRST_WORD)));
+    let last = LAST_WORD - FIRST_WORD;
+    assert!(rt; Word::try_from(last).is_ok());
+    assert_eq!(rt; Word::try_from(last + 1), Err(TooLarge(last + 1)));
+}
+
+// The number of a word, or that there is no such word.
+fn word_number(bytes: &[u8]) -> Result<u64, WordTooLong> {
+    Word::try_from(bytes).map(|word| word.number)
+}
+
+#[test]
 fn words_of_seven_bytes_and_eight(rt: HostRuntime) {
-    assert_eq!(rt; word_number(b"Trondhe"), 0x54_726f_6e64_6865);
-    assert_eq!(rt; word_number(b"Trondhei"), NULL);
-    assert!(rt; word_number(b"") == 0 && word_number(b"ab") < word_number(b"ab\x01"));
+    assert_eq!(rt; word_number(b"Trondhe"), Ok(0x54_726f_6e64_6865));
+    assert_eq!(rt; word_number(b"Trondhei"), Err(WordTooLong));
+    assert_eq!(rt; word_number(b""), Ok(0));
+    assert!(rt; word_number(b"ab").ok() < word_number(b"ab\x01").ok());
 }

@@ -6,7 +6,6 @@ use code_columns::named::columns_named;
 use code_columns::project::project;
 use column_set::ColumnSet;
 use expressions::evaluate::evaluate;
-use expressions::stack::Stack;
 use expressions::typing::type_of;
 use values::cells::NULL_CELL;
 use values::types::{Arithmetic, Kind, Operator};
@@ -27,8 +26,7 @@ const CHOICE: [u64; 8] = [4, 0, 1, 0x61_0000_0000_0000, 3, 0, 18, 0];
 fn value_on(code: &[u64], late: u64, day: u64) -> u64
     requires { length code.now ≤ 20 }
 {
-    let mut words = [0; 10];
-    let mut stack = Stack::new(&mut words);
+    let mut stack = [0; 10];
     evaluate(code, &[late, day], &mut stack).to_cell()
 }
 
@@ -43,33 +41,27 @@ fn values_on_rows(rt: HostRuntime) {
         (12, NULL, NULL, A),
         (40, NULL, 0, A),
     ];
-    for row in &table {
-        let (late, day, condition, choice) = *row;
+    for &(late, day, condition, choice) in &table {
         assert_eq!(rt; value_on(&CONDITION, late, day), condition);
         assert_eq!(rt; value_on(&CHOICE, late, day), choice);
     }
 }
 
-// 1 for a number, 2 for a word, 0 for no type.
-fn type_on(code: &[u64], word_columns: ColumnSet) -> u64
+// The type of an expression over columns of which these are words.
+fn type_on(code: &[u64], word_columns: ColumnSet) -> Option<Kind>
     requires { length code.now ≤ 20 }
 {
-    let mut words = [0; 10];
-    let mut stack = Stack::new(&mut words);
-    match type_of(code, word_columns, &mut stack) {
-        Some(Kind::Number) => 1,
-        Some(Kind::Word) => 2,
-        None => 0,
-    }
+    let mut stack = [0; 10];
+    type_of(code, word_columns, &mut stack)
 }
 
 #[test]
 fn types_and_columns(rt: HostRuntime) {
     let numbers = ColumnSet::empty(2);
-    assert!(rt; type_on(&CONDITION, numbers) == 1 && type_on(&CHOICE, numbers) == 2);
-    assert!(rt;
-        type_on(&CONDITION, ColumnSet::all(2)) == 0 && type_on(&CONDITION, ColumnSet::empty(1)) == 0
-    );
+    assert_eq!(rt; type_on(&CONDITION, numbers), Some(Kind::Number));
+    assert_eq!(rt; type_on(&CHOICE, numbers), Some(Kind::Word));
+    assert_eq!(rt; type_on(&CONDITION, ColumnSet::all(2)), None);
+    assert_eq!(rt; type_on(&CONDITION, ColumnSet::empty(1)), None);
     let named = columns_named(&CHOICE, 2);
     assert!(rt; columns_named(&CONDITION, 3).len() == 2 && named.contains(0) && !named.contains(1));
 }
@@ -85,9 +77,9 @@ fn projected_code(rt: HostRuntime) {
 }
 
 fn repeat(code: &mut Code, instruction: Instruction, times: usize)
-    requires { 2 * (code.old.count + times) ≤ length code.old.words.now }
-    ensures length { length code.new.words.now ≡ length code.old.words.now }
-    ensures count { code.new.count ≡ code.old.count + times }
+    requires { 2 * (length code.old.instructions + times) ≤ code.old.size }
+    ensures length { code.new.size ≡ code.old.size }
+    ensures count { length code.new.instructions ≡ length code.old.instructions + times }
 {
     for _turn in 0..times {
         code.push(instruction);
@@ -97,7 +89,7 @@ fn repeat(code: &mut Code, instruction: Instruction, times: usize)
 #[test]
 fn deep_nesting(rt: HostRuntime) {
     let mut code_words = [0; 40_004];
-    let mut stack_words = [0; 20_002];
+    let mut stack = [0; 20_002];
     let mut code = Code::new(&mut code_words);
     repeat(&mut code, Instruction::Column(0), 10_001);
     repeat(
@@ -106,6 +98,5 @@ fn deep_nesting(rt: HostRuntime) {
         10_000,
     );
     repeat(&mut code, Instruction::Not, 1);
-    let mut stack = Stack::new(&mut stack_words);
     assert_eq!(rt; evaluate(code.words(), &[3], &mut stack).to_cell(), 0);
 }

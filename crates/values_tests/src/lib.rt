@@ -13,9 +13,8 @@ mod sets;
 ghost use Rattle.values_tests.specs.Worked.{Condition, Choice};
 
 // The code in the tests stands for the expressions that are said there.
-pub fn words_stand_for_expressions() -> u8
+#[tactic(auto, unfolding(code::specs::Words::code_in))]
+pub fn words_stand_for_expressions()
     ensures condition { Condition }
     ensures choice { Choice }
-{
-    0
-}
+{}

@@ -1,6 +1,6 @@
 use std::process::Abort;
 use values::cells::NULL_CELL;
-use values::types::{Arithmetic, Comparison, Logic, Operator, Value};
+use values::types::{Arithmetic, Comparison, Logic, Operator, Truth, Value};
 
 const NULL: u64 = NULL_CELL;
 
@@ -32,8 +32,7 @@ const OR: Operator = Operator::Logic(Logic::Or);
 
 // Each row: an operator, the cells of two values, and of what it comes to on them.
 fn check_table(rt: &impl Abort, table: &[(Operator, u64, u64, u64)]) {
-    for row in table {
-        let (operator, a, b, expected) = *row;
+    for &(operator, a, b, expected) in table {
         assert_eq!(rt;
             Value::from_cell(a)
                 .apply(operator, Value::from_cell(b))
@@ -122,15 +121,14 @@ fn comparisons(rt: HostRuntime) {
 // Each row: the cells of a value, of its negation, and of the choice between 1 and 2 by it.
 #[test]
 fn negations_and_choices(rt: HostRuntime) {
-    for row in &[
+    for &(a, not, chosen) in &[
         (7, 0, 1),
         (0, 1, 2),
         (NULL, NULL, NULL),
         (A_WORD, NULL, NULL),
     ] {
-        let (a, not, chosen) = *row;
-        let truth = Value::from_cell(a).truth();
-        assert_eq!(rt; truth.not().value().to_cell(), not);
+        let truth = Truth::from(Value::from_cell(a));
+        assert_eq!(rt; Value::from(!truth).to_cell(), not);
         assert_eq!(rt;
             truth.select(Value::number(1), Value::number(2)).to_cell(),
             chosen
@@ -148,8 +146,7 @@ fn sums_and_bests(rt: HostRuntime) {
         (LARGEST, 1, NULL, 1, LARGEST),
         (NULL, NULL, NULL, NULL, NULL),
     ];
-    for row in &table {
-        let (a, b, sum, min, max) = *row;
+    for &(a, b, sum, min, max) in &table {
         let (a, b) = (Value::from_cell(a), Value::from_cell(b));
         assert_eq!(rt; a.add_to_sum(b).to_cell(), sum);
         assert!(rt; a.min(b).to_cell() == min && a.max(b).to_cell() == max);

@@ -4,7 +4,7 @@
 
 use asking::replies::*;
 use asking::reply;
-use std::alloc::{AllocError, Global};
+use std::alloc::AllocError;
 use std::fs;
 
 const FOLDER: &str = "flights";
@@ -24,26 +24,15 @@ fn names(rt: &HostRuntime) -> anyhow::Result<Vec<String>> {
     Ok(names)
 }
 
-// What `ask` would print, on either stream.
-fn said(heap: Global, outcome: Result<Vec<u8>, Failure>) -> Result<Vec<u8>, AllocError> {
-    match outcome {
-        Ok(rows) => Ok(rows),
-        Err(Failure::Said(line)) => {
-            let mut bytes = line.as_bytes().to_vec(heap)?;
-            bytes.push(b'\n')?;
-            Ok(bytes)
-        }
-        Err(Failure::OutOfMemory) => Err(AllocError),
-    }
-}
-
 // Does the question come to what its file says.
 fn holds(rt: &HostRuntime, name: &str, pages: &[u8]) -> anyhow::Result<bool> {
     let heap = rt.alloc();
     let text = fs::read(rt, format!(in heap; "{FOLDER}/{name}{QUESTION}")?)?;
-    let outcome = reply(heap, text.as_slice(), "flights.pages", pages);
-    let ending = if outcome.is_ok() { "rows" } else { "refusal" };
-    let said = said(heap, outcome)?;
+    let (said, ending) = match reply(heap, text.as_slice(), "flights.pages", pages) {
+        Ok(rows) => (rows, "rows"),
+        Err(Failure::Said(line)) => (format!(in heap; "{line}\n")?.into_bytes(), "refusal"),
+        Err(Failure::OutOfMemory) => return Err(AllocError.into()),
+    };
     let path = format!(in heap; "{FOLDER}/{name}.{ending}")?;
     if !fs::exists(rt, path.as_str())? {
         return Ok(false);

@@ -1,15 +1,18 @@
-use Rattle.std.proofs.Common.{ap, ◌∙◌, arith}
+use Rattle.std.proofs.Common.{◌||◌, ap, ap₂, ◌∙◌, arith}
 use Rattle.meaning.specs.Base.{any}
-use Rattle.code.specs.Words.{instr_of}
 use Rattle.code_columns.specs.Columns.{names_col}
-use Rattle.code_columns.proofs.Names.{names_start, names_turn, names_end, marks_named}
+use Rattle.code_columns.proofs.Names.{names_turn, names_end, marks_named}
 use Rattle.code_columns.proofs.named.columns_named.Goals as goal
 
-pub loop-i-init : goal.loop-i-init
-loop-i-init c = (c.empty-set.ensures.width, λ k h. names_start c.args.code.now c.empty-set.result.bits c.empty-set.ensures.columns k)
+pub loop-instruction-init : goal.loop-instruction-init
+loop-instruction-init c = (c.empty-set.ensures.width, λ k h. ap₂ (λ a is. a || any (names_col k) is) (c.empty-set.ensures.columns k) (c.into_iter-instruction-iterator.ensures.into_iter_gives ∙ c.new-instruction-items.ensures.code))
 
-pub loop-i-preserved : goal.loop-i-preserved
-loop-i-preserved c = (c.insert_column.ensures.width ∙ c.loop-i.invariant.0, λ k h. names_turn c.args.code.now c.loop-i.i (instr_of c.fetch-instruction.result) k c.loop-i.set.bits _ _ (omega arith) c.fetch-instruction.ensures (c.insert_column.ensures.columns k (omega arith)) (c.loop-i.invariant.1 k h))
+pub loop-instruction-preserved : goal.loop-instruction-preserved
+loop-instruction-preserved c = (c.insert_column.ensures.width ∙ c.loop-instruction.invariant.0, λ k h. names_turn k _ _ _ c.in-Some.ensures.steps (c.insert_column.ensures.columns k (omega arith)) (c.loop-instruction.invariant.1 k h))
 
 pub returns : goal.returns
-returns c = record { width = c.loop-i.invariant.0; columns = λ cs e q w o. marks_named cs e c.loop-i.set.bits o (λ k h. names_end c.args.code.now c.loop-i.i k c.loop-i.set.bits _ (omega arith) (c.loop-i.invariant.1 k (omega arith)) ∙ ap (any (names_col k)) q) }
+returns c =
+    record {
+      width = c.loop-instruction.invariant.0;
+      columns = λ cs e q w o. marks_named cs e c.loop-instruction.set.bits o (λ k h. names_end k _ _ c.in-None.ensures.steps.0 (c.loop-instruction.invariant.1 k (omega arith)) ∙ ap (any (names_col k)) q);
+    }

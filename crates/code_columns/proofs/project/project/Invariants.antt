@@ -6,5 +6,5 @@ use Rattle.code_columns.proofs.project.project.Given as goal
 
 abbrev pub invariant-loop-i : goal.invariant-loop-i
 invariant-loop-i l =
-    ((k : ℕ) → k < l.i → instruction_at l.code k ≡ map_col (new_index l.used.bits l.used.width) (instruction_at l.initial.code k)) ×
+    ((k : ℕ) → k < l.i → instruction_at l.code k ≡ map_col (new_index l.used) (instruction_at l.initial.code k)) ×
     ((k : ℕ) → l.i ≤ k → instruction_at l.code k ≡ instruction_at l.initial.code k)

@@ -1,11 +1,10 @@
-use Rattle.std.proofs.Common.{◌≡◌, ◌+◌, ◌++◌, take}
-use Rattle.column_set.specs.Membership.{count_before, columns_before}
+use Rattle.std.proofs.Common.{◌≡◌, ◌+◌, ◌++◌, length, take}
+use Rattle.column_set.specs.Membership.{columns_before}
 use Rattle.column_set.proofs.ColumnSet.list.Given as goal
 
-abbrev pub invariant-loop-column : goal.invariant-loop-column
-invariant-loop-column l =
-    (goal.iterator-loop-column).can_next l.column-iterator ×
-    (goal.iterator-loop-column).is_finite l.column-iterator ×
-    (l.column-iterator.rest.width ≡ l.initial.column-iterator.rest.width) ×
-    (l.n + count_before l.column-iterator.rest.bits l.initial.column-iterator.rest.width ≡ count_before l.initial.column-iterator.rest.bits l.initial.column-iterator.rest.width) ×
-    (take l.n l.into ++ columns_before l.column-iterator.rest.bits l.initial.column-iterator.rest.width ≡ columns_before l.initial.column-iterator.rest.bits l.initial.column-iterator.rest.width)
+abbrev pub invariant-loop-place : goal.invariant-loop-place
+invariant-loop-place l =
+    (goal.iterator-loop-place).can_next l.place-iterator ×
+    (goal.iterator-loop-place).is_finite l.place-iterator ×
+    (l.place-iterator.count + length l.place-iterator.iter ≡ length (columns_before l.fn.self.bits l.fn.self.width)) ×
+    (take l.place-iterator.count l.into ++ l.place-iterator.iter ≡ columns_before l.fn.self.bits l.fn.self.width)

@@ -1,9 +1,18 @@
-use Rattle.std.proofs.Common.{refl, length-set}
+use Rattle.std.proofs.Common.{◌++◌, ◌∷◌, [], length, ap, ◌∙◌, arith, length-append}
 use Rattle.code.specs.Words.{instr_of}
-use Rattle.code.specs.Views.{code_on}
-use Rattle.code.proofs.Written.{written}
+use Rattle.code.proofs.Written.{room_left, written}
 use Rattle.code.proofs.code.Code.push.Goals as goal
 
-pub returns : goal.returns
-unfolding code_on
-returns c = record { length = simp length-set; count = refl; code = written c.args.self.now.words.now c.args.self.now.count c.pack-operation.result.0 c.pack-operation.result.1 (instr_of c.args.instruction) c.requires c.pack-operation.ensures }
+pub store-requires : goal.store-requires
+store-requires c = let room = room_left c.self.inside.words.now c.self.inside.count _ c.self.view_is c.self.invariant c.requires in omega arith
+
+pub invariant_of-self : goal.invariant_of-self
+invariant_of-self c = let room = room_left c.self.inside.words.now c.self.inside.count _ c.self.view_is c.self.invariant c.requires in omega (arith, c.store.auto.code)
+
+pub returns-clause-pushed : goal.returns-clause-pushed
+returns-clause-pushed c =
+    let room = room_left c.self.inside.words.now c.self.inside.count _ c.self.view_is c.self.invariant c.requires in
+    written c.self.inside.words.now c.store.new.code c.self.inside.count _ room c.store.auto.code c.store.ensures.stored c.store.ensures.others ∙ ap (λ s. s.instructions ++ (instr_of c.args.instruction ∷ [])) c.self.view_is
+
+pub returns-clause-count : goal.returns-clause-count
+returns-clause-count c = ap length (returns-clause-pushed c) ∙ length-append c.args.self.now.instructions (instr_of c.args.instruction ∷ [])

@@ -1,8 +1,0 @@
-use Rattle.std.proofs.Common.{◌≡◌, ◌++◌, take, string_bytes}
-use Rattle.std.specs.List.{flat_map}
-use Rattle.messages.specs.Quotes.{quoted_byte}
-use Rattle.messages.proofs.quotes.push_quote.Given as goal
-
-abbrev pub invariant-loop-byte : goal.invariant-loop-byte
-invariant-loop-byte l =
-    string_bytes l.message ≡ string_bytes l.initial.message ++ flat_map quoted_byte (take l.byte-index l.bytes)
