@@ -1,5 +1,5 @@
 -- Quotes stay on one line.
-use Rattle.std.proofs.Common.{◌≡◌, ℕ, ◌/◌, ◌%◌, ◌<◌, true, false, cond, List, [], ◌∷◌, ◌++◌, get_or, suc, codes, refl, arith}
+use Rattle.std.proofs.Common.{◌≡◌, ℕ, ◌/◌, ◌%◌, ◌<◌, true, false, cond, List, [], ◌∷◌, ◌++◌, get_or, suc, codes, refl, arith, rules, tests}
 use Rattle.std.specs.Bool.{IsTrue}
 use Rattle.std.specs.List.{flat_map, list_all}
 use Rattle.std.proofs.lemmas.List.Folds.{list_all-append}
@@ -31,3 +31,11 @@ quoted_prints bytes small = rw (list_all-append prints (flat_map quoted_byte byt
 -- a message that quotes bytes stays on one line
 pub quote_prints : (name bytes message : List ℕ) → ((i : ℕ) → get_or name i 0 < 256) → bytes ≡ name → message ≡ quoted bytes → IsTrue (one_line message)
 quote_prints name bytes message small same is = rw (is, same) (quoted_prints name small)
+
+-- bytes that all print are written as they are
+pub printed : (bytes : List ℕ) → one_line bytes ≡ true → flat_map quoted_byte bytes ≡ bytes
+printed [] all = refl
+printed (b ∷ bytes) all =
+    let first : prints b ≡ true = search (rules, tests) in
+    let others : one_line bytes ≡ true = search (rules, tests) in
+    rw (first, printed bytes others) refl

@@ -40,26 +40,21 @@ impl<'b, 't> Before<'b, 't> {
         new_columns(columns, Action::Make(bound.code))
     }
 
-    // Where columns of these names stand. No `map`: a closure that holds `Before`, or its columns and its line, was
-    // refused, since their references would stand at several lifetimes at once.
-    fn places(self, names: &[&'t [u8]]) -> Result<Vec<Place<'t>>, Unsound<'t>> {
-        let mut places = Vec::new(self.tables.heap);
+    // Columns by their names, and where they stand. No `map`: a closure that holds `Before`, or its columns and its
+    // line, was refused, since their references would stand at several lifetimes at once.
+    fn places(self, names: &[&'t [u8]]) -> Result<(Vec<Column<'t>>, Vec<usize>), Unsound<'t>> {
+        let mut columns = Vec::new(self.tables.heap);
+        let mut positions = Vec::new(self.tables.heap);
         for name in names.iter() {
-            places.push(self.place(*name)?)?;
+            let place = self.place(*name)?;
+            columns.push(place.column)?;
+            positions.push(place.at)?;
         }
-        Ok(places)
+        Ok((columns, positions))
     }
 
     fn pick(self, names: &[&'t [u8]]) -> Result<Bound<'t>, Unsound<'t>> {
-        let places = self.places(names)?;
-        let columns = places
-            .iter()
-            .map(|place| place.column)
-            .collect(self.tables.heap)?;
-        let positions = places
-            .iter()
-            .map(|place| place.at)
-            .collect(self.tables.heap)?;
+        let (columns, positions) = self.places(names)?;
         new_columns(columns, Action::Pick(positions))
     }
 
@@ -121,15 +116,7 @@ impl<'b, 't> Before<'b, 't> {
 
     // No `map`, as in `places`.
     fn group(self, group: &Group<'t>) -> Result<Bound<'t>, Unsound<'t>> {
-        let places = self.places(group.keys.as_slice())?;
-        let mut columns: Vec<Column> = places
-            .iter()
-            .map(|place| place.column)
-            .collect(self.tables.heap)?;
-        let keys = places
-            .iter()
-            .map(|place| place.at)
-            .collect(self.tables.heap)?;
+        let (mut columns, keys) = self.places(group.keys.as_slice())?;
         let mut aggregations = Vec::new(self.tables.heap);
         for named in group.aggregates.iter() {
             let folding = self.aggregate(named.aggregate)?;

@@ -46,15 +46,14 @@ pub fn piece_len(rest: &[u8]) -> Option<usize>
 }
 
 fn number(digits: &[u8]) -> Result<Token, Fault<'_>> {
-    if !digits.iter().all(|byte| byte.is_ascii_digit()) {
-        return Err(Fault::NotANumber(digits));
-    }
-    let value = std::str::from_utf8(digits)
-        .ok()
-        .and_then(|text| text.parse::<u64>().ok());
+    let value = digits.iter().try_fold(0, |value: u64, byte| {
+        let digit = char::from(*byte).to_digit(10)?;
+        Some(value.saturating_mul(10).saturating_add(u64::from(digit)))
+    });
     match value {
         Some(value) if value < NUMBER_LIMIT => Ok(Token::Number(value)),
-        _ => Err(Fault::LargeNumber(digits)),
+        Some(_) => Err(Fault::LargeNumber(digits)),
+        None => Err(Fault::NotANumber(digits)),
     }
 }
 

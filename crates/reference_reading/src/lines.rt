@@ -23,20 +23,22 @@ impl<'t> Line<'t> {
     // Cuts a line into pieces, up to its end or a note.
     pub fn cut(heap: Global, number: usize, line: &'t [u8]) -> Result<Line<'t>, Fault<'t>> {
         let mut pieces = VecDeque::new(heap);
-        let mut rest = behind_blanks(line);
-        while let [first, ..] = rest {
+        let line = behind_blanks(line);
+        // What stands behind the last piece.
+        let mut behind = line;
+        while let rest @ [first, ..] = behind_blanks(behind) {
             if *first == b'#' {
                 break;
             }
             let Some(len) = piece_len(rest) else {
                 return Err(Fault::OpenQuote);
             };
-            let (text, behind) = rest.split_at(len);
+            let (text, others) = rest.split_at(len);
             let token = Token::try_from(text)?;
             pieces.push_back(Piece { token, text })?;
-            rest = behind_blanks(behind);
+            behind = others;
         }
-        let text = line[..line.len() - rest.len()].trim_ascii();
+        let text = &line[..line.len() - behind.len()];
         Ok(Line {
             number,
             text,

@@ -51,8 +51,8 @@ impl<'t> Draft<'t> {
     fn head(&mut self, mut line: Line<'t>) -> Result<(), Fault<'t>> {
         let piece = line.take(Wanted::TableOrFrom)?;
         match piece.token {
-            Token::Keyword(Keyword::Table) => self.tables.push(read_table(&mut line)?)?,
-            Token::Keyword(Keyword::From) => self.source = Some(read_source(&mut line)?),
+            Token::Keyword(Keyword::Table) => self.tables.push(read_table(line)?)?,
+            Token::Keyword(Keyword::From) => self.source = Some(read_source(line)?),
             _ => return Err(piece.instead_of(Wanted::TableOrFrom)),
         }
         Ok(())
@@ -60,14 +60,14 @@ impl<'t> Draft<'t> {
 
     fn add(&mut self, number: usize, text: &'t [u8]) -> Result<(), Fault<'t>> {
         let heap = *self.tables.allocator();
-        let mut line = Line::cut(heap, number, text)?;
+        let line = Line::cut(heap, number, text)?;
         if line.is_over() {
             return Ok(());
         }
         if self.source.is_none() {
             return self.head(line);
         }
-        self.steps.push(read_step(&mut line)?)?;
+        self.steps.push(read_step(line)?)?;
         Ok(())
     }
 }

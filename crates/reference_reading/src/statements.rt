@@ -1,4 +1,4 @@
-// Reads a table or a step from the pieces of its line.
+// Reads a table or a step from the pieces of its line. Who reads takes the line, so that its pieces are gone before what was read is kept.
 ghost use Rattle.reference_reading.specs.Lines.{Shrank};
 ghost use Rattle.std.specs.Prelude.{OnOk};
 
@@ -52,10 +52,10 @@ fn items<'t, T: Item<'t> + Drop>(line: &mut Line<'t>) -> Result<Vec<T>, Fault<'t
 }
 
 // NAME ROWS, then a name, a type and a page for each column.
-pub fn read_table<'t>(line: &mut Line<'t>) -> Result<TableDecl<'t>, Fault<'t>> {
+pub fn read_table<'t>(mut line: Line<'t>) -> Result<TableDecl<'t>, Fault<'t>> {
     let name = line.name()?;
     let rows = line.number()?;
-    let columns = items(line)?;
+    let columns = items(&mut line)?;
     Ok(TableDecl {
         line: line.number,
         name,
@@ -145,7 +145,7 @@ fn group<'t>(line: &mut Line<'t>) -> Result<Group<'t>, Fault<'t>> {
 }
 
 // The table behind `from`.
-pub fn read_source<'t>(line: &mut Line<'t>) -> Result<Source<'t>, Fault<'t>> {
+pub fn read_source<'t>(mut line: Line<'t>) -> Result<Source<'t>, Fault<'t>> {
     let table = line.name()?;
     line.end()?;
     Ok(Source {
@@ -176,8 +176,8 @@ fn step<'t>(line: &mut Line<'t>) -> Result<Step<'t>, Fault<'t>> {
     }
 }
 
-pub fn read_step<'t>(line: &mut Line<'t>) -> Result<Statement<'t>, Fault<'t>> {
-    let step = step(line)?;
+pub fn read_step<'t>(mut line: Line<'t>) -> Result<Statement<'t>, Fault<'t>> {
+    let step = step(&mut line)?;
     line.end()?;
     Ok(Statement {
         line: line.number,
