@@ -1,12 +1,11 @@
 // The steps that put rows together by their keys: order, distinct, group.
 use crate::evaluating::*;
-use crate::steps::*;
 use crate::tables::*;
 use reference_planning::plans::*;
 use reference_values::values::*;
 use std::alloc::{AllocError, Global};
 use std::cmp::Ordering;
-use std::collections::{BTreeMap, BTreeSet};
+use std::collections::{HashMap, HashSet};
 
 fn compare_at(sort: SortColumn, a: &[Value], b: &[Value]) -> Ordering {
     let ordering = cell(a, sort.column).cmp(&cell(b, sort.column));
@@ -32,13 +31,23 @@ pub fn order(mut rows: Vec<Row>, columns: &[SortColumn]) -> Result<Vec<Row>, All
     Ok(rows)
 }
 
-// Each row once, where it first stands; null is a value like others.
+// Whether each row stands there for the first time; null is a value like others.
+fn stand_first(heap: Global, rows: &[Row]) -> Result<Vec<bool>, AllocError> {
+    let mut seen = HashSet::with_capacity(heap, rows.len())?;
+    let mut first = Vec::new(heap);
+    for row in rows.iter() {
+        first.push(seen.insert(row)?)?;
+    }
+    Ok(first)
+}
+
+// Each row once, where it first stands.
 pub fn distinct(rows: Vec<Row>) -> Result<Vec<Row>, AllocError> {
     let heap = *rows.allocator();
-    let mut seen = BTreeSet::new(heap);
+    let first = stand_first(heap, rows.as_slice())?;
     let mut kept = Vec::new(heap);
-    for row in rows {
-        if seen.insert(row.clone()?)? {
+    for (row, first) in rows.into_iter().zip(first) {
+        if first {
             kept.push(row)?;
         }
     }
@@ -46,16 +55,19 @@ pub fn distinct(rows: Vec<Row>) -> Result<Vec<Row>, AllocError> {
 }
 
 // The rows of each group, groups in the order of their first rows; null is a key like others.
-// A map to places in the list: a BTreeMap of groups would not keep this order.
+// A map to places in the list: a map of groups would not keep this order.
 fn groups<'r>(
     heap: Global,
     rows: &'r [Row],
     keys: &[usize],
 ) -> Result<Vec<Vec<&'r Row>>, AllocError> {
-    let mut numbers = BTreeMap::new(heap);
+    let mut numbers = HashMap::with_capacity(heap, rows.len())?;
     let mut groups: Vec<Vec<&'r Row>> = Vec::new(heap);
     for row in rows.iter() {
-        let key = part(heap, row.as_slice(), keys)?;
+        let key: Row = keys
+            .iter()
+            .map(|column| cell(row.as_slice(), *column))
+            .collect(heap)?;
         let number = *numbers.entry(key)?.or_insert(groups.len());
         match groups.get_mut(number) {
             Some(group) => group.push(row)?,
@@ -103,9 +115,18 @@ fn group_row(heap: Global, group: &[&Row], grouping: &Grouping) -> Result<Row, A
         .iter()
         .map(|column| Aggregation::First(*column));
     let aggregations = grouping.aggregations.iter().copied();
-    keys.chain(aggregations)
-        .map(|aggregation| aggregate(group, aggregation))
-        .collect(heap)
+    let mut row = empty_row(
+        heap,
+        grouping
+            .keys
+            .len()
+            .saturating_add(grouping.aggregations.len()),
+    )?;
+    row.extend(
+        keys.chain(aggregations)
+            .map(|aggregation| aggregate(group, aggregation)),
+    )?;
+    Ok(row)
 }
 
 // A row for each group; without keys there is one group, also of no rows.

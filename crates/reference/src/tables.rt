@@ -15,12 +15,21 @@ fn value_at(words: &[u64], stored: &StoredColumn, row: u64) -> Value {
     )
 }
 
+// An empty row with room for so many values and for some more, which `make` adds one by one.
+pub fn empty_row(heap: Global, width: usize) -> Result<Row, AllocError> {
+    let room = width.checked_next_power_of_two().unwrap_or(width);
+    Vec::with_capacity(heap, room.max(4))
+}
+
 fn load_row(heap: Global, words: &[u64], table: &TableDecl, row: u64) -> Result<Row, AllocError> {
-    table
-        .columns
-        .iter()
-        .map(|stored| value_at(words, stored, row))
-        .collect(heap)
+    let mut values = empty_row(heap, table.columns.len())?;
+    values.extend(
+        table
+            .columns
+            .iter()
+            .map(|stored| value_at(words, stored, row)),
+    )?;
+    Ok(values)
 }
 
 pub fn load(heap: Global, words: &[u64], table: &TableDecl) -> Result<Vec<Row>, AllocError> {

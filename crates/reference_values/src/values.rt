@@ -7,7 +7,7 @@ ghost use Rattle.reference_values.specs.Values.{compared, computed, meant, meant
 use crate::kinds::*;
 use std::ops::Not;
 
-#[derive(Clone, Copy, PartialEq, Eq, PartialOrd, Ord, Debug)]
+#[derive(Clone, Copy, PartialEq, Eq, PartialOrd, Ord, Hash, Debug)]
 pub enum Value {
     Null,
     Number(u64),
