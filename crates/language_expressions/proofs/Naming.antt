@@ -10,7 +10,7 @@ use Rattle.language_pieces.specs.Views.{ahead}
 use Rattle.language_expressions.specs.Views.{named_code}
 use Rattle.language_pieces.specs.declared.reader.Reader.{Reader}
 
-each_append : {A C : Type 0} (f : A → C) (xs : List A) (x : A) → each f (xs ++ (x ∷ [])) ≡ each f xs ++ (f x ∷ [])
+pub each_append : {A C : Type 0} (f : A → C) (xs : List A) (x : A) → each f (xs ++ (x ∷ [])) ≡ each f xs ++ (f x ∷ [])
 each_append f [] x = refl
 each_append f (y ∷ xs) x = ap (λ t. f y ∷ t) (each_append f xs x)
 

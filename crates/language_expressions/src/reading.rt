@@ -43,6 +43,7 @@ impl Turn {
         requires room { 2 * length code.old.instructions + 2 ≤ code.old.size }
         ensures marks { marks.new ≡ record { items = marked self.mark marks.old.items; room = marks.old.room } }
         ensures size { code.new.size ≡ code.old.size }
+        ensures within { 2 * length code.new.instructions ≤ code.new.size }
         ensures code { (line : List ℕ) → named_code line code.new.instructions ≡ coded line self.instruction (named_code line code.old.instructions) }
     {
         if let Some(mark) = self.mark {
@@ -59,6 +60,7 @@ pub fn read_expression(mut reader: Reader, stack: &mut [u64], code: &mut Code) -
     requires deep { mark_words (length reader.line.now) ≤ length stack.old }
     requires room { 2 * (length code.old.instructions + instruction_limit (length reader.line.now)) ≤ code.old.size }
     ensures size { code.new.size ≡ code.old.size }
+    ensures within { 2 * length code.new.instructions ≤ code.new.size }
     ensures read { elim result [ Err f ↦ whole_expression (ahead reader.entry) ≡ none | Ok u ↦ CodedBehind (whole_expression (ahead reader.entry)) (named_code reader.entry.line.now code.old.instructions) (named_code reader.entry.line.now code.new.instructions) ] }
 {
     let mut marks = Stack::new(stack);

@@ -28,7 +28,7 @@ cut_quote b bs e d c a = rw (e, d, c, a)
 pub cut_word_on : (w : Bytes) (b : ℕ) (bs : List ℕ) → is_word_byte b ≡ true → cut_line (inside_word w) (b ∷ bs) ≡ cut_line (inside_word (w ++ (b ∷ []))) bs
 cut_word_on w b bs e = rw e
 
-cut_word_end : (w : Bytes) (b : ℕ) (bs : List ℕ) → is_word_byte b ≡ false → cut_line (inside_word w) (b ∷ bs) ≡ w ∷ cut_line between (b ∷ bs)
+pub cut_word_end : (w : Bytes) (b : ℕ) (bs : List ℕ) → is_word_byte b ≡ false → cut_line (inside_word w) (b ∷ bs) ≡ w ∷ cut_line between (b ∷ bs)
 cut_word_end w b bs e = grind arith
 
 -- runs of bytes of a kind
@@ -58,9 +58,13 @@ unfolding cuts
 quote_closed w [] h = absurd (omega arith)
 quote_closed w (b ∷ bs) h = grind (arith, drop_next, take_next (prefix_len (λ b. not (eqb b 39)) bs) b bs, add_assoc, append-nil, append_assoc w (b ∷ []), quote_closed (w ++ (b ∷ [])) bs)
 
-quote_open : (w : Bytes) (bs : List ℕ) → length bs ≤ prefix_len (λ b. not (eqb b 39)) bs → cut_line (inside_quotes w) bs ≡ (39 ∷ []) ∷ (39 ∷ []) ∷ []
-quote_open w [] h = refl
-quote_open w (b ∷ bs) h = grind (arith, one-add, quote_open (w ++ (b ∷ [])) bs)
+quote_unclosed : (w : Bytes) (bs : List ℕ) → length bs ≤ prefix_len (λ b. not (eqb b 39)) bs → cut_line (inside_quotes w) bs ≡ (39 ∷ []) ∷ (39 ∷ []) ∷ []
+quote_unclosed w [] h = refl
+quote_unclosed w (b ∷ bs) h = grind (arith, one-add, quote_unclosed (w ++ (b ∷ [])) bs)
+
+-- a line that ends inside quotes
+pub quote_open : (s : List ℕ) (i : ℕ) → length s ≤ i → cuts s ≡ cut_line (inside_quotes (take i s)) (drop i s) → cuts s ≡ (39 ∷ []) ∷ (39 ∷ []) ∷ []
+quote_open s i h q = q ∙ ap (cut_line (inside_quotes (take i s))) (drop_all i s h)
 
 pub quote_cut : (s : List ℕ) (n : ℕ) → 0 < length s → get_or s 0 0 ≡ 39 → position (λ b. eqb b 39) (drop 1 s) ≡ Some n → cuts s ≡ take (n + 1) s ∷ cuts (drop (n + 2) s)
 unfolding cuts
@@ -70,7 +74,7 @@ quote_cut (b ∷ bs) n h e q = let p = cond_some _ _ _ q in let e2 : b ≡ 39 = 
 pub quote_no_cut : (s : List ℕ) → 0 < length s → get_or s 0 0 ≡ 39 → position (λ b. eqb b 39) (drop 1 s) ≡ None → cuts s ≡ (39 ∷ []) ∷ (39 ∷ []) ∷ []
 unfolding cuts
 quote_no_cut [] h e q = absurd (omega arith)
-quote_no_cut (b ∷ bs) h e q = grind (arith, quote_open (39 ∷ []) bs)
+quote_no_cut (b ∷ bs) h e q = grind (arith, quote_unclosed (39 ∷ []) bs)
 
 pub two_signs : (s : List ℕ) → 1 < length s → is_blank (get_or s 0 0) ≡ false → eqb (get_or s 0 0) 35 ≡ false → is_word_byte (get_or s 0 0) ≡ false → eqb (get_or s 0 0) 39 ≡ false → is_half (get_or s 0 0) ≡ true → get_or s 1 0 ≡ 61 → cuts s ≡ take 2 s ∷ cuts (drop 2 s)
 unfolding cuts
@@ -145,3 +149,10 @@ goes_on line s rest a p e h q = rw (← end_of_end line s rest a e h, ← e, q) 
 
 pub at_the_end : (line : List ℕ) → cuts (drop (length line) line) ≡ []
 at_the_end line = cuts_none (drop (length line) line) (omega (arith, length-drop (length line) line))
+
+-- the place behind the blanks
+pub same_place : (line t : List ℕ) (a n : ℕ) → t ≡ drop a line → cuts t ≡ cuts (drop n t) → cuts (drop (a + n) line) ≡ cuts (drop a line)
+same_place line t a n e h = ap cuts (sym (drop-drop n a line)) ∙ (ap (λ r. cuts (drop n r)) (sym e) ∙ (sym h ∙ ap cuts e))
+
+pub place_cuts : (line : List ℕ) (a n : ℕ) → n ≡ prefix_len is_blank (drop a line) → cuts (drop (a + n) line) ≡ cuts (drop a line)
+place_cuts line a n e = same_place line (drop a line) a n refl (rw e (sym (blanks_behind (drop a line))))

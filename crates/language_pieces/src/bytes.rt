@@ -18,7 +18,7 @@ pub fn is_digit(byte: u8) -> bool
 pub fn is_word_byte(byte: u8) -> bool
     ensures { result ≡ is_word_byte byte }
 {
-    byte.is_ascii_alphanumeric() || byte == b'_'
+    matches!(byte, b'a'..=b'z' | b'A'..=b'Z' | b'_' | b'0'..=b'9')
 }
 
 // Whether = may follow a byte as part of the same sign.

@@ -18,7 +18,7 @@ pub struct OpenQuote;
 
 // How many blanks stand first.
 // This and word_length are a chain each: with the test as a parameter the contract would speak of its answers.
-fn blanks(s: &[u8]) -> usize
+pub(crate) fn blanks(s: &[u8]) -> usize
     ensures within { result ≤ length s.now }
     ensures count { result ≡ prefix_len is_blank s.now }
 {

@@ -2,7 +2,7 @@ ghost use Rattle.std.specs.Prelude.{◌≡◌, true, false, drop, Some, None};
 ghost use Rattle.meaning.specs.Base.{same_bytes};
 ghost use Rattle.meaning.specs.Text.{head_piece, tail_pieces};
 ghost use Rattle.language_pieces.specs.Pieces.{cuts, none_left};
-ghost use Rattle.language_pieces.specs.Views.{ahead};
+ghost use Rattle.language_pieces.specs.Views.{ahead, place_of};
 
 use crate::cutting::*;
 use crate::faults::{Expected, Fault};
@@ -81,10 +81,12 @@ impl<'a> Reader<'a> {
     }
 
     // Where the next piece begins.
+    #[tactic(auto, using(crate::proofs::Cut::place_cuts))]
     pub fn place(&self) -> usize
-        ensures { cuts (drop result self.now.line.now) ≡ cuts (drop self.now.at self.now.line.now) }
+        ensures at { result ≡ place_of self.now }
+        ensures pieces { cuts (drop result self.now.line.now) ≡ cuts (drop self.now.at self.now.line.now) }
     {
-        self.line.len() - skip_blanks(self.rest()).len()
+        self.at + blanks(self.rest())
     }
 
     // Whether this word or sign stands next.
@@ -112,7 +114,9 @@ impl<'a> Reader<'a> {
         ensures line { self.new.line.now ≡ self.old.line.now }
         ensures read { elim result [ Ok value ↦ (found ≡ Some value) × (ahead self.new ≡ tail_pieces (ahead self.old)) | Err f ↦ (found ≡ None) × (self.new ≡ self.old) ] }
     {
-        let value = found.ok_or(self.fault(expected))?;
+        let Some(value) = found else {
+            return Err(self.fault(expected));
+        };
         self.advance();
         Ok(value)
     }
@@ -120,6 +124,7 @@ impl<'a> Reader<'a> {
     // That something else should have stood next.
     pub fn fault(&self, expected: Expected) -> Fault
         ensures expected { result.expected ≡ expected }
+        ensures at { result.place ≡ place_of self.now }
         ensures place { cuts (drop result.place self.now.line.now) ≡ cuts (drop self.now.at self.now.line.now) }
     {
         Fault {

@@ -7,7 +7,7 @@ use Rattle.language_expressions.proofs.Room.{start, Leads, went, stopped, faulty
 use Rattle.language_expressions.proofs.reading.read_expression.Goals as goal
 
 pub loop-turn-init : goal.loop-turn-init
-loop-turn-init c = record { line = refl; room = refl; size = refl; holds = start c.args.reader _ _ (ap (λ s. s.items) c.new-marks.ensures) }
+loop-turn-init c = record { line = refl; room = refl; size = refl; within = omega (arith, c.requires.room); holds = start c.args.reader _ _ (ap (λ s. s.items) c.new-marks.ensures) }
 
 pub returns-in_err-turn-clause-read : goal.returns-in_err-turn-clause-read
 returns-in_err-turn-clause-read c =
@@ -39,6 +39,7 @@ loop-turn-preserved c = record {
   line = c.next_turn.ensures.line ∙ c.loop-turn.invariant.line;
   room = ap (λ s. s.room) c.settle.ensures.marks ∙ (c.next_turn.ensures.room ∙ c.loop-turn.invariant.room);
   size = c.settle.ensures.size ∙ c.loop-turn.invariant.size;
+  within = c.settle.ensures.within;
   holds = holds_next _ _ _ (turned c) c.loop-turn.invariant.holds;
 }
 
