@@ -1,14 +1,16 @@
 -- A text cut into lines.
-use Rattle.std.proofs.Common.{◌≡◌, ℕ, zero, suc, ◌+◌, ◌-◌, ◌<◌, ◌≤◌, Bool, true, false, not, ltb, cond, List, [], ◌∷◌, ◌++◌, length, take, drop, Some, None, Option as Given, Bor, sym, refl, ap, ◌∙◌, arith, append_assoc, append-nil}
+use Rattle.std.proofs.Common.{◌≡◌, ℕ, zero, suc, ◌+◌, ◌-◌, ◌<◌, ◌≤◌, Bool, true, false, not, ltb, cond, List, [], ◌∷◌, ◌++◌, length, get_or, take, drop, Some, None, Option as Given, Bor, ◌==◌, sym, refl, ap, ◌∙◌, arith, append_assoc, append-nil, eq-eqb}
 use Rattle.std.specs.Option.{unwrap_or}
 use Rattle.std.specs.List.{prefix_len, position}
-use Rattle.std.proofs.lemmas.List.{take_rest}
+use Rattle.std.proofs.lemmas.List.{take_rest, drop_more, drop_all}
+use Rattle.std.proofs.lemmas.List.Sums.{sum_by-cons}
 use Rattle.std.proofs.lemmas.Bool.{ltb-true, ltb-false}
 use Rattle.std.specs.Iterator.{Yields, SkipsThenYields}
 use Rattle.meaning.specs.Text.{lines_of}
 use Rattle.language_pieces.specs.Pieces.{cuts}
 use Rattle.language_pieces.specs.Pieces.{none_left}
 use Rattle.language.specs.Lines.{is_newline, numbered, later, lines_left, left_in, line_at, NextLine}
+use Rattle.language.specs.Questions.{newlines}
 use Rattle.language.specs.declared.lines.Lines.{Lines}
 
 not_newline : ℕ → Bool
@@ -61,6 +63,20 @@ pub line_last : (s : List ℕ) → None ≡ position is_newline s → lines_of [
 unfolding first_size not_newline
 line_last s e = last_at [] s (ltb-false (first_size s) (length s) (none_of (ltb (first_size s) (length s)) (first_size s) e))
 
+-- the same at a place before which no newline stands
+pub line_cut_at : (s : List ℕ) (i : ℕ) → i < length s → get_or s i 0 ≡ 10 → lines_of [] s ≡ lines_of (take i s) (drop i s) → lines_of [] s ≡ take i s ∷ lines_of [] (drop (i + 1) s)
+line_cut_at s i h n e = e ∙ (ap (lines_of (take i s)) (drop_more s i 0 h) ∙ ap (λ b. cond b (take i s ∷ lines_of [] (drop (i + 1) s)) (lines_of (take i s ++ (get_or s i 0 ∷ [])) (drop (i + 1) s))) (eq-eqb (get_or s i 0) 10 n))
+
+pub line_last_at : (s : List ℕ) (i : ℕ) → length s ≤ i → lines_of [] s ≡ lines_of (take i s) (drop i s) → lines_of [] s ≡ take i s ∷ []
+line_last_at s i h e = e ∙ ap (lines_of (take i s)) (drop_all i s h)
+
+-- newlines are counted byte by byte
+pub no_newlines : newlines [] ≡ 0
+no_newlines = refl
+
+pub newlines_first : (byte : ℕ) (s : List ℕ) → newlines (byte ∷ s) ≡ cond (byte == 10) 1 0 + newlines s
+newlines_first byte s = sum_by-cons (λ b. cond (is_newline b) 1 0) byte s
+
 fill_one : (n : ℕ) (s : List ℕ) (ss : List (List ℕ)) → none_left (cuts s) ≡ false → numbered later n (s ∷ ss) ≡ record { number = later n; bytes = s } ∷ numbered later (later n) ss
 fill_one n s ss e = rw e
 
@@ -81,13 +97,13 @@ unfolding left_in
 lines_over a e = ap (numbered later a.number) e
 
 -- the line behind so many others
-first_line : (ss : List (List ℕ)) (n : ℕ) (s : List ℕ) (more : List (List ℕ)) → drop n ss ≡ s ∷ more → line_at ss n ≡ s
+pub first_line : (ss : List (List ℕ)) (n : ℕ) (s : List ℕ) (more : List (List ℕ)) → drop n ss ≡ s ∷ more → line_at ss n ≡ s
 first_line [] zero s more e = absurd (omega (arith, ap length e))
 first_line [] (suc n) s more e = absurd (omega (arith, ap length e))
 first_line (x ∷ ss) zero s more e = let q : x ≡ s = cc in q
 first_line (x ∷ ss) (suc n) s more e = first_line ss n s more e
 
-no_line : (ss : List (List ℕ)) (k n : ℕ) → k ≤ n → drop k ss ≡ [] → line_at ss n ≡ []
+pub no_line : (ss : List (List ℕ)) (k n : ℕ) → k ≤ n → drop k ss ≡ [] → line_at ss n ≡ []
 no_line [] k n h e = refl
 no_line (x ∷ ss) zero n h e = absurd (omega (arith, ap length e))
 no_line (x ∷ ss) (suc k) zero h e = absurd (omega arith)

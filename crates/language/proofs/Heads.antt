@@ -11,7 +11,7 @@ use Rattle.language_statements.specs.Statements.{lone_name, table_of}
 use Rattle.language_statements.specs.declared.views.Table.{Table}
 use Rattle.language.specs.Questions.{head_in}
 
-some_still : {A C : Type 0} (o : Option A) (f : A → C) → is_some (and_then o (λ x. some (f x))) ≡ is_some o
+pub some_still : {A C : Type 0} (o : Option A) (f : A → C) → is_some (and_then o (λ x. some (f x))) ≡ is_some o
 some_still none f = refl
 some_still (some x) f = refl
 

@@ -139,10 +139,13 @@ blames x t (some l) h = h
 pub heads_refused : (x : NotAQuestion) (t : List ℕ) (ls : List Line) → LinesOf t ls → after_tables ls ≡ none → Blames x t (wrong_in ls) → Read (Err x) t
 heads_refused x t ls e f g = (no_from t ls e f, subst (λ k. Blames x t (wrong_in k)) e g)
 
+pub heads_blamed : (x : NotAQuestion) (t : List ℕ) (ls : List Line) → LinesOf t ls → after_tables ls ≡ none → BlamesFirst x (wrong_in ls) → Read (Err x) t
+heads_blamed x t ls e f g = heads_refused x t ls e f (blames x t (wrong_in ls) g)
+
 pub steps_refused : (x : NotAQuestion) (t : List ℕ) (ls ms : List Line) (n : Bytes) → LinesOf t ls → after_tables ls ≡ some (record { name = n; lines = ms }) → wrong_in ls ≡ wrong_step ms → steps_in ms ≡ none → BlamesFirst x (wrong_step ms) → Read (Err x) t
 steps_refused x t ls ms n e f w g h = (no_steps t ls ms n e f g, blames x t (wrong_line t) (subst (BlamesFirst x) (sym w ∙ ap wrong_in e) h))
 
-found_in : (t : List ℕ) (q : Question) → LinesOf t (left_in q.tables.lines) → after_tables (left_in q.tables.lines) ≡ some (record { name = q.from.now; lines = left_in q.steps.lines }) → is_some (steps_in (left_in q.steps.lines)) ≡ true → Read (Ok q) t
+pub found_in : (t : List ℕ) (q : Question) → LinesOf t (left_in q.tables.lines) → after_tables (left_in q.tables.lines) ≡ some (record { name = q.from.now; lines = left_in q.steps.lines }) → is_some (steps_in (left_in q.steps.lines)) ≡ true → Read (Ok q) t
 found_in t q e f g =
     let ts = some_of (tables_in (left_in q.tables.lines)) (tables_right (left_in q.tables.lines) _ f) in
     let ss = some_of (steps_in (left_in q.steps.lines)) (sym g) in (

@@ -169,7 +169,7 @@ keys_one l l1 p e f =
     }
 
 -- aggregates
-agg_same : (l : List Bytes) → read_agg l ≡ read_aggregate l
+pub agg_same : (l : List Bytes) → read_agg l ≡ read_aggregate l
 unfolding read_aggregate
 agg_same [] = refl
 agg_same (x ∷ l) = by (same_bytes x (codes "count")) (same_bytes x (codes "sum")) (same_bytes x (codes "min")) (same_bytes x (codes "max")) (same_bytes x (codes "first"))
@@ -197,10 +197,10 @@ aggs_fuel (suc n) (suc m) l h k =
     then_same (read_agg l2) _ _ (length l2) (agg_shorter l2) (λ a l3 b3. cond_same (same_bytes (head_piece l3) (codes ",")) _ _ _
     (ap (λ o. and_then o (λ more. some (record { name = x; agg = a } ∷ more))) (aggs_fuel n m (tail_pieces l3) (omega (arith, after_at_most l3)) (omega (arith, after_at_most l3)))))))
 
-abbrev on_aggs : NamedAgg → List Bytes → Option (List NamedAgg)
+abbrev pub on_aggs : NamedAgg → List Bytes → Option (List NamedAgg)
 on_aggs x l = cond (same_bytes (head_piece l) (codes ",")) (and_then (all_aggs (tail_pieces l)) (λ xs. some (x ∷ xs))) (at_end (x ∷ []) l)
 
-on_next : (l : List Bytes) → all_aggs l ≡ then_read (read_named_agg l) on_aggs
+pub on_next : (l : List Bytes) → all_aggs l ≡ then_read (read_named_agg l) on_aggs
 unfolding all_aggs
 on_next l =
     then_same (read_name l) _ _ (length l) (name_shorter l) (λ x l1 b1.
@@ -219,8 +219,11 @@ aggs_next : (l : List Bytes) → all_aggs l ≡ then_read (read_named_agg l) (λ
 aggs_next l = on_next l ∙ with_same (read_named_agg l) _ _ more_is
 
 -- aggregates, by what stands behind one
+pub all_aggs_bad : (l : List Bytes) → read_named_agg l ≡ none → all_aggs l ≡ none
+all_aggs_bad l e = on_next l ∙ ap (λ p. then_read p on_aggs) e
+
 pub aggs_bad : (a : Given Reader) (r : Reader) → a ≡ Some r → read_named_agg (ahead r) ≡ none → aggs_left a ≡ none
-aggs_bad a r i e = rw i (aggs_next (ahead r) ∙ ap (λ p. then_read p (λ x l1. and_then (more_aggs l1) (λ xs. some (x ∷ xs)))) e)
+aggs_bad a r i e = rw i (all_aggs_bad (ahead r) e)
 
 aggs_read : (l l1 : List Bytes) (x : NamedAgg) → read_named_agg l ≡ parsed x l1 → all_aggs l ≡ and_then (more_aggs l1) (λ xs. some (x ∷ xs))
 aggs_read l l1 x e = aggs_next l ∙ ap (λ p. then_read p (λ x l1. and_then (more_aggs l1) (λ xs. some (x ∷ xs)))) e

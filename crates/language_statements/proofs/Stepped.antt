@@ -86,8 +86,11 @@ as_read r o o' t t' e f h = subst (λ x. StepRead r o' x) f (subst (λ x. StepRe
 pub left_is : (l m : List Bytes) → same_bytes (head_piece l) (codes "join") ≡ true → m ≡ tail_pieces l → verb_line v_left l ≡ join_line true m
 left_is l m e f = expect_read (codes "join") l m (λ l1. join_line true l1) (omega arith) e f
 
+pub table_parts : (l l1 l2 m : List Bytes) (n : Bytes) (k : ℕ) → read_name l ≡ parsed n l1 → read_number l1 ≡ parsed k l2 → m ≡ l2 → table_line l ≡ and_then (all_columns m) (λ cs. some (record { name = n; rows = k; cols = cs }))
+table_parts l l1 l2 m n k e f g =
+    ap (λ r. then_read r (λ a q. then_read (read_number q) (λ b q2. and_then (read_columns (length q2) q2) (λ cs. some (record { name = a; rows = b; cols = cs }))))) e
+    ∙ (ap (λ r. then_read r (λ b q2. and_then (read_columns (length q2) q2) (λ cs. some (record { name = n; rows = b; cols = cs })))) f
+    ∙ ap (λ o. and_then o (λ cs. some (record { name = n; rows = k; cols = cs }))) (columns_are l2 ∙ ap all_columns (sym g)))
+
 pub table_is : (l l1 : List Bytes) (q : Reader) (t : Table) → read_name l ≡ parsed t.name.now l1 → read_number l1 ≡ parsed t.rows (ahead q) → t.columns.reader ≡ q → table_line l ≡ table_of t
-table_is l l1 q t e f g =
-    ap (λ r. then_read r (λ a m. then_read (read_number m) (λ b m2. and_then (read_columns (length m2) m2) (λ cs. some (record { name = a; rows = b; cols = cs }))))) e
-    ∙ (ap (λ r. then_read r (λ b m2. and_then (read_columns (length m2) m2) (λ cs. some (record { name = t.name.now; rows = b; cols = cs })))) f
-    ∙ ap (λ o. and_then o (λ cs. some (record { name = t.name.now; rows = t.rows; cols = cs }))) (columns_are (ahead q) ∙ ap (λ r. all_columns (ahead r)) (sym g)))
+table_is l l1 q t e f g = table_parts l l1 (ahead q) (ahead t.columns.reader) t.name.now t.rows e f (ap (λ r. ahead r) g)

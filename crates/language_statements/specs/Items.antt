@@ -134,6 +134,11 @@ SameLine before None = Unit {0}
 SameLine None (Some r) = ⊥
 SameLine (Some q) (Some r) = r.line.now ≡ q.line.now
 
+-- the reader is still there, on the same line
+abbrev pub StillOnLine : Given Reader → Given Reader → Type 0
+StillOnLine (Some q) (Some r) = r.line.now ≡ q.line.now
+StillOnLine _ _ = ⊥
+
 -- what is left of aggregates
 abbrev pub aggregates_left : Aggregates → Left (List NamedAgg)
 aggregates_left a = record { whole = aggs_left a.reader; pieces = pieces_left a.reader }

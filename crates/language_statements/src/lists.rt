@@ -5,7 +5,7 @@ ghost use Rattle.meaning.specs.Base.{is_some, Bytes};
 ghost use Rattle.meaning.specs.Text.{Parsed};
 ghost use Rattle.meaning.specs.Steps.{NamedAgg};
 ghost use Rattle.language_pieces.specs.Views.{ahead};
-ghost use Rattle.language_statements.specs.Items.{group_keys_left, aggregates_left, pieces_left, aggs_left, more_aggs, key_more, key_over, named_agg_of, SameLine};
+ghost use Rattle.language_statements.specs.Items.{group_keys_left, aggregates_left, pieces_left, aggs_left, more_aggs, key_more, key_over, named_agg_of, SameLine, StillOnLine};
 ghost use Rattle.language_statements.specs.Lists.{Left, items_left, ItemRead, ItemGiven, Kept};
 
 use crate::items::*;
@@ -152,13 +152,16 @@ impl<'a> FallibleIterator for Aggregates<'a> {
 
     #[tactic(auto, using(crate::proofs::Listed::aggs_bad, crate::proofs::Listed::aggs_stop, crate::proofs::Listed::aggs_one, crate::proofs::Listed::refused))]
     fn try_next(&mut self) -> Result<Option<NamedAggregate<'a>>, Fault>
-        ensures line { SameLine self.old.reader self.new.reader }
+        ensures line { elim result [ Err f ↦ StillOnLine self.old.reader self.new.reader | Ok x ↦ SameLine self.old.reader self.new.reader ] }
         ensures item { ItemRead (λ l. []) (λ v xs. named_agg_of v ∷ xs) (aggregates_left self.old) result (aggregates_left self.new) }
     {
         let Some(mut reader) = self.reader else {
             return Ok(None);
         };
-        let aggregate = NamedAggregate::parse(&mut reader)?;
+        let aggregate = NamedAggregate::parse(&mut reader);
+        // Behind a fault too, the list goes on from where the reader stands.
+        self.reader = Some(reader);
+        let aggregate = aggregate?;
         self.reader = behind_aggregate(reader)?;
         Ok(Some(aggregate))
     }
