@@ -48,6 +48,10 @@ kept ws i k t a p q = get_or-set_other (set ws (2 * i) t) (2 * i + 1) k a 0 q �
 pub others : (ws : List ℕ) (i t a k : ℕ) → k ≢ i → instruction_at (set (set ws (2 * i) t) (2 * i + 1) a) k ≡ instruction_at ws k
 others ws i t a k h = ap₂ unpacked (kept ws i (2 * k) t a (omega arith) (omega arith)) (kept ws i (2 * k + 1) t a (omega arith) (omega arith))
 
+-- an operation and its operand put behind the first instructions
+pub written_words : (ws : List ℕ) (n t a : ℕ) (i : Instr ℕ) → 2 * n + 2 ≤ length ws → unpacked t a ≡ i → code_in (take (2 * (n + 1)) (set (set ws (2 * n) t) (2 * n + 1) a)) ≡ code_in (take (2 * n) ws) ++ (i ∷ [])
+written_words ws n t a i h e = written ws (set (set ws (2 * n) t) (2 * n + 1) a) n i h (length-set (set ws (2 * n) t) (2 * n + 1) a ∙ length-set ws (2 * n) t) (stored ws n t a (omega arith) ∙ e) (λ k q. others ws n t a k q)
+
 -- there is room for one more
 pub room_left : (ws : List ℕ) (n : ℕ) (v : Held) → record { instructions = code_in (take (2 * n) ws); size = length ws } ≡ v → 2 * n ≤ length ws → 2 * length v.instructions + 2 ≤ v.size → 2 * n + 2 ≤ length ws
 room_left ws n v e b h =

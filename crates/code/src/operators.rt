@@ -1,4 +1,4 @@
-ghost use Rattle.std.specs.Prelude.{◌≡◌, ◌+◌, ◌<◌};
+ghost use Rattle.std.specs.Prelude.{◌≡◌, ℕ, ◌+◌, ◌<◌};
 ghost use Rattle.values.specs.Types.{op_of};
 ghost use Rattle.code.specs.Postfix.{i_op};
 ghost use Rattle.code.specs.Operators.{operator_in};
@@ -25,7 +25,7 @@ pub static OPERATORS: [Operator; 11] = [
 pub fn operator_number(operator: Operator) -> u64
     ensures is { operator_in result ≡ operator }
     ensures small { result < 11 }
-    ensures operation { unpacked (5 + result) 0 ≡ i_op (op_of operator) }
+    ensures operation { (operand : ℕ) → unpacked (5 + result) operand ≡ i_op (op_of operator) }
 {
     match operator {
         Operator::Arithmetic(arithmetic) => arithmetic as u64,

@@ -55,6 +55,10 @@ marks_named cs e bits o h k c n = h k (nth_below cs k c n) ∙ (any_each (names_
     nth_below (d ∷ cs) zero c e = omega arith
     nth_below (d ∷ cs) (suc k) c e = let r = nth_below cs k c e in omega arith
 
+-- no column in the set, and all instructions left
+pub names_start : (k : ℕ) {b : Bool} {is all : List (Instr ℕ)} → b ≡ false → is ≡ all → (b || any (names_col k) is) ≡ any (names_col k) all
+names_start k h e = ap₂ (λ b is. b || any (names_col k) is) h e
+
 -- an instruction goes from those left into the set
 pub names_turn : (k : ℕ) {before after : List (Instr ℕ)} {x : Instr ℕ} (a b all : Bool) → before ≡ x ∷ after → b ≡ (names_col k x || a) → (a || any (names_col k) before) ≡ all → (b || any (names_col k) after) ≡ all
 names_turn k {after = is} {x = x} a b all e h p = ap (λ z. z || any (names_col k) is) h ∙ (turn (names_col k x) a (any (names_col k) is) ∙ (sym (ap (λ c. a || any (names_col k) c) e) ∙ p))

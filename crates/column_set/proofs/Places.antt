@@ -1,15 +1,19 @@
 -- Sets of columns and tables that have only these.
-use Rattle.std.proofs.Common.{◌≡◌, ℕ, zero, suc, ◌+◌, ◌^◌, ◌<◌, ◌≤◌, Bool, true, false, cond, not, ◌&&◌, eqb, List, [], ◌∷◌, ◌++◌, length, take, set, sym, refl, ap, ◌∙◌, ap₂, ⊎_elim, append_assoc, length-append, add-one, arith, take-suc-set}
+use Rattle.std.proofs.Common.{◌≡◌, ℕ, zero, suc, ◌+◌, ◌^◌, ◌<◌, ◌≤◌, Bool, true, false, cond, not, ◌&&◌, ◌||◌, eqb, List, [], ◌∷◌, ◌++◌, length, take, set, sym, refl, ap, ◌∙◌, ap₂, ⊎_elim, append_assoc, length-append, add-one, arith, take-suc-set}
 use mathlib.Core.Option.{some}
 use Rattle.std.specs.Prelude.{Some, None, Option as Given}
 use Rattle.std.specs.Iterator.{YieldsFirst, item_count, MakesProgress}
-use Rattle.std.proofs.Math.Bool.{and-true}
-use Rattle.std.proofs.lemmas.Bool.{eq-eqb, ne_eqb, cases_eq}
+use Rattle.std.specs.List.{list_any}
+use Rattle.std.proofs.Math.Bool.{and-true, and-false, or-false}
+use Rattle.std.proofs.lemmas.Bool.{eq-eqb, ne_eqb, cases_eq, true≢false}
+use Rattle.std.proofs.lemmas.Bool.Decides.{leb_tells}
+use Rattle.std.proofs.lemmas.List.Folds.{list_any-append}
+use lib.Bits.{bit_xor, xor_lt}
 use Rattle.meaning.specs.Base.{nth, filter, Bytes, among}
 use Rattle.meaning.specs.Values.{Col}
 use Rattle.projection.specs.Projected.{project_cols}
 use Rattle.column_set.specs.Membership.{has, count_before, columns_before, First, Taken, Marks}
-use Rattle.column_set.proofs.Has.{first_within}
+use Rattle.column_set.proofs.Has.{has_past, first_within, bit_within, removed, trailing_first}
 
 there : {A : Type 0} (xs : List A) (i : ℕ) → i < length xs → (x : A) × (nth xs i ≡ some x)
 there [] i h = absurd (omega arith)
@@ -55,6 +59,59 @@ first_listed b i c (suc w) f h =
 pub yields : (b w : ℕ) (r : Given ℕ) (c v : ℕ) → b < 2 ^ w → Taken b r c → v ≡ w → YieldsFirst (λ s. s) (columns_before b w) r (columns_before c v)
 yields b w None c v l t e = (none_before b w (λ k q. t.0 k), none_before c v (λ k q. ap (λ x. has x k) t.1 ∙ t.0 k))
 yields b w (Some i) c v l f e = first_listed b i c w f (first_within b w i l f.is_in) ∙ ap (λ x. i ∷ columns_before c x) (sym e)
+
+-- the list has the columns of the set, and no others
+one_listed : (z : Bool) (k w : ℕ) → list_any (eqb k) (cond z (w ∷ []) []) ≡ (z && eqb k w)
+one_listed true k w = or-false (eqb k w)
+one_listed false k w = refl
+
+none_past : (b w k : ℕ) → w ≤ k → list_any (eqb k) (columns_before b w) ≡ false
+none_past b zero k h = refl
+none_past b (suc w) k h = list_any-append (eqb k) (columns_before b w) _ ∙ ap₂ (λ x y. x || y) (none_past b w k (omega arith)) (one_listed (has b w) k w ∙ (ap (λ z. has b w && z) (ne_eqb k w (λ e. absurd (omega arith))) ∙ and-false (has b w)))
+
+listed_within : (b w k : ℕ) → k < w → list_any (eqb k) (columns_before b w) ≡ has b k
+listed_within b zero k h = absurd (omega arith)
+listed_within b (suc w) k h =
+    list_any-append (eqb k) (columns_before b w) _
+    ∙ ⊎_elim
+    (λ e. ap₂ (λ x y. x || y) (none_past b w k (omega arith)) (one_listed (has b w) k w ∙ (ap (λ z. has b w && z) (eq-eqb k w e) ∙ and-true (has b w))) ∙ ap (has b) (sym e))
+    (λ e. ap₂ (λ x y. x || y) (listed_within b w k (omega arith)) (one_listed (has b w) k w ∙ (ap (λ z. has b w && z) (ne_eqb k w e) ∙ and-false (has b w))) ∙ or-false (has b k))
+    (cases_eq k w)
+
+pub listed : (b w k : ℕ) → b < 2 ^ w → list_any (eqb k) (columns_before b w) ≡ has b k
+listed b w k h = ⊎_elim (λ p. listed_within b w k p.1) (λ p. let l : w ≤ k = omega arith in none_past b w k l ∙ sym (has_past b w k h l)) (leb_tells (suc k) w)
+
+-- its first item is the first column
+pub first_of : (b w i : ℕ) (l : List ℕ) → columns_before b w ≡ i ∷ l → (i < w) × ((k : ℕ) → k < i → has b k ≡ false)
+first_of b zero i l e = let z = ap length e in absurd (omega arith)
+first_of b (suc w) i l e =
+    (elim (columns_before b w) as (λ xs. columns_before b w ≡ xs → xs ++ cond (has b w) (w ∷ []) [] ≡ i ∷ l → (i < suc w) × ((k : ℕ) → k < i → has b k ≡ false)) [
+      | [] ↦ λ p q. only (has b w) q p
+      | x ∷ xs ↦ λ p q. let s : x ≡ i = cc in let r = first_of b w x xs p in let m = r.0 in (omega arith, λ k h. r.1 k (omega arith))
+    ]) refl e
+  where
+    only : (z : Bool) → cond z (w ∷ []) [] ≡ i ∷ l → columns_before b w ≡ [] → (i < suc w) × ((k : ℕ) → k < i → has b k ≡ false)
+    only true q p = let s : w ≡ i = cc in (omega arith, λ k h. sym (listed_within b w k (omega arith)) ∙ ap (list_any (eqb k)) p)
+    only false q p = let z = ap length q in absurd (omega arith)
+
+empty_zero : (n w : ℕ) → n < 2 ^ w → ((k : ℕ) → has n k ≡ false) → n ≡ 0
+empty_zero n w h e = ⊎_elim (λ z. z) (λ z. absurd (true≢false (sym (trailing_first w n h z).0 ∙ e _))) (cases_eq n 0)
+
+empty_list : (n w : ℕ) → n < 2 ^ w → columns_before n w ≡ [] → (k : ℕ) → has n k ≡ false
+empty_list n w h e k = sym (listed n w k h) ∙ ap (list_any (eqb k)) e
+
+-- what comes of the list comes of the set: the first column is taken out, and the others are left
+pub yielded : (b w : ℕ) (r : Given ℕ) (c v : ℕ) → b < 2 ^ w → c < 2 ^ v → YieldsFirst (λ s. s) (columns_before b w) r (columns_before c v) → Taken b r c
+yielded b w None c v h g y = (empty_list b w h y.0, empty_zero c v g (empty_list c v g y.1) ∙ sym (empty_zero b w h (empty_list b w h y.0)))
+yielded b w (Some i) c v h g y =
+    let f = first_of b w i (columns_before c v) y in
+    let p : has b i ≡ true = sym (listed b w i h) ∙ (ap (list_any (eqb i)) y ∙ ap (λ z. z || list_any (eqb i) (columns_before c v)) (eq-eqb i i refl)) in
+    let d = bit_xor b (2 ^ i) in
+    let r = removed b i (2 ^ i) refl p in
+    let q : columns_before b w ≡ i ∷ columns_before d w = first_listed b i d w (record { is_in = p; least = f.1; others = r }) f.0 in
+    let s : columns_before c v ≡ columns_before d w = cc in
+    let l : d < 2 ^ w = xor_lt w b (2 ^ i) h (bit_within i w (2 ^ i) refl f.0) in
+    record { is_in = p; least = f.1; others = λ k. sym (listed c v k g) ∙ (ap (list_any (eqb k)) s ∙ (listed d w k l ∙ r k)) }
 
 pub progress : (s : List ℕ) (r : Given ℕ) (t : List ℕ) → YieldsFirst (λ l. l) s r t → MakesProgress (λ l. Unit {0}) (item_count (λ l. l)) s r t
 progress s None t h = record { on = λ f. tt; keeps = tt; rests = λ f. tt }

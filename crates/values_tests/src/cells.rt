@@ -40,6 +40,7 @@ fn keys_and_values_have_one_order(rt: HostRuntime) {
         );
         let (x, y) = (Value::from_cell(a), Value::from_cell(b));
         assert!(rt; x < y && !(y < x) && x != y && x == Value::from_cell(a));
+        assert!(rt; x.is_less(y) && !y.is_less(x) && !x.equals(y) && x.equals(x));
     }
 }
 
@@ -62,5 +63,6 @@ fn words_of_seven_bytes_and_eight(rt: HostRuntime) {
     assert_eq!(rt; word_number(b"Trondhe"), Ok(0x54_726f_6e64_6865));
     assert_eq!(rt; word_number(b"Trondhei"), Err(WordTooLong));
     assert_eq!(rt; word_number(b""), Ok(0));
-    assert!(rt; word_number(b"ab").ok() < word_number(b"ab\x01").ok());
+    let numbers = (word_number(b"ab"), word_number(b"ab\x01"));
+    assert!(rt; matches!(numbers, (Ok(a), Ok(b)) if a < b));
 }

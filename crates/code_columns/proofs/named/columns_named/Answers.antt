@@ -1,11 +1,11 @@
-use Rattle.std.proofs.Common.{◌||◌, ap, ap₂, ◌∙◌, arith}
+use Rattle.std.proofs.Common.{ap, ◌∙◌, arith}
 use Rattle.meaning.specs.Base.{any}
 use Rattle.code_columns.specs.Columns.{names_col}
-use Rattle.code_columns.proofs.Names.{names_turn, names_end, marks_named}
+use Rattle.code_columns.proofs.Names.{names_start, names_turn, names_end, marks_named}
 use Rattle.code_columns.proofs.named.columns_named.Goals as goal
 
 pub loop-instruction-init : goal.loop-instruction-init
-loop-instruction-init c = (c.empty-set.ensures.width, λ k h. ap₂ (λ a is. a || any (names_col k) is) (c.empty-set.ensures.columns k) (c.into_iter-instruction-iterator.ensures.into_iter_gives ∙ c.new-instruction-items.ensures.code))
+loop-instruction-init c = (c.empty-set.ensures.width, λ k h. names_start k (c.empty-set.ensures.columns k) (c.into_iter-instruction-iterator.ensures.into_iter_gives ∙ c.new-instruction-items.ensures.code))
 
 pub loop-instruction-preserved : goal.loop-instruction-preserved
 loop-instruction-preserved c = (c.insert_column.ensures.width ∙ c.loop-instruction.invariant.0, λ k h. names_turn k _ _ _ c.in-Some.ensures.steps (c.insert_column.ensures.columns k (omega arith)) (c.loop-instruction.invariant.1 k h))
