@@ -54,9 +54,49 @@ pub fn distinct(rows: Vec<Row>) -> Result<Vec<Row>, AllocError> {
     Ok(kept)
 }
 
-// The rows of each group, groups in the order of their first rows; null is a key like others.
+fn compare_keys(keys: &[usize], a: &[Value], b: &[Value]) -> Ordering {
+    keys.iter()
+        .map(|column| cell(a, *column).cmp(&cell(b, *column)))
+        .find(|ordering| ordering.is_ne())
+        .unwrap_or(Ordering::Equal)
+}
+
+// Whether rows stand in the order of these columns, upwards or downwards, so that equal keys stand together.
+fn stand_in_order(rows: &[Row], keys: &[usize]) -> bool {
+    let up = rows.iter().zip(rows.iter().skip(1)).all(|(a, b)| compare_keys(
+        keys,
+        a.as_slice(),
+        b.as_slice(),
+    ).is_le());
+    up || rows.iter().zip(rows.iter().skip(1)).all(|(a, b)| compare_keys(
+        keys,
+        a.as_slice(),
+        b.as_slice(),
+    ).is_ge())
+}
+
+// The rows of each group where equal keys stand together: a row is of the last group, or of a new one.
+fn runs<'r>(
+    heap: Global,
+    rows: &'r [Row],
+    keys: &[usize],
+) -> Result<Vec<Vec<&'r Row>>, AllocError> {
+    let mut groups: Vec<Vec<&'r Row>> = Vec::new(heap);
+    let mut before: &[Value] = &[];
+    for row in rows.iter() {
+        let is_same = compare_keys(keys, before, row.as_slice()).is_eq();
+        match groups.last_mut() {
+            Some(group) if is_same => group.push(row)?,
+            _ => groups.push(vec![in heap; row]?)?,
+        }
+        before = row.as_slice();
+    }
+    Ok(groups)
+}
+
+// The rows of each group, wherever equal keys stand.
 // A map to places in the list: a map of groups would not keep this order.
-fn groups<'r>(
+fn scattered<'r>(
     heap: Global,
     rows: &'r [Row],
     keys: &[usize],
@@ -75,6 +115,19 @@ fn groups<'r>(
         }
     }
     Ok(groups)
+}
+
+// The rows of each group, groups in the order of their first rows; null is a key like others.
+fn groups<'r>(
+    heap: Global,
+    rows: &'r [Row],
+    keys: &[usize],
+) -> Result<Vec<Vec<&'r Row>>, AllocError> {
+    if stand_in_order(rows, keys) {
+        runs(heap, rows, keys)
+    } else {
+        scattered(heap, rows, keys)
+    }
 }
 
 // The values of a column, put together one after the other.
