@@ -46,15 +46,22 @@ fn read_or_say(rt: &HostRuntime, name: &str) -> Result<Vec<u8>, Failure> {
     })
 }
 
+fn help(rt: &HostRuntime) -> Result<Vec<u8>, Failure> {
+    Ok(HELP.as_bytes().to_vec(rt.alloc())?)
+}
+
+fn answer(rt: &HostRuntime, question: &str, pages: &str) -> Result<Vec<u8>, Failure> {
+    let text = read_or_say(rt, question)?;
+    let bytes = read_or_say(rt, pages)?;
+    reply(rt.alloc(), text.as_slice(), pages, bytes.as_slice())
+}
+
 // What is printed for a command.
-fn answer(rt: &HostRuntime, command: Command<'_>) -> Result<Vec<u8>, Failure> {
+fn obey(rt: &HostRuntime, command: Command<'_>) -> Result<Vec<u8>, Ending> {
     match command {
-        Command::Help => Ok(HELP.as_bytes().to_vec(rt.alloc())?),
-        Command::Answer { question, pages } => {
-            let text = read_or_say(rt, question)?;
-            let bytes = read_or_say(rt, pages)?;
-            reply(rt.alloc(), text.as_slice(), pages, bytes.as_slice())
-        }
+        Command::Help => help(rt).map_err(Ending::Failed),
+        Command::Answer { question, pages } => answer(rt, question, pages).map_err(Ending::Failed),
+        Command::Misused => Err(Ending::Misused(Misused)),
     }
 }
 
@@ -65,8 +72,7 @@ fn arguments(rt: &HostRuntime) -> io::Result<Vec<String>> {
 
 fn run(rt: &HostRuntime) -> Result<(), Ending> {
     let arguments = arguments(rt).map_err(Ending::Arguments)?;
-    let command = Command::try_from(arguments.as_slice()).map_err(Ending::Misused)?;
-    let bytes = answer(rt, command).map_err(Ending::Failed)?;
+    let bytes = obey(rt, Command::from_arguments(arguments.as_slice()))?;
     rt.stdout()
         .write_all(bytes.as_slice())
         .map_err(Ending::Printing)

@@ -1,6 +1,6 @@
 // What `ask` is called with.
 ghost use Rattle.std.specs.Prelude.{◌≡◌, Some, MatchResult, map, string_bytes};
-ghost use Rattle.asking.specs.Arguments.{Asks, is_file, is_text};
+ghost use Rattle.asking.specs.Arguments.{Asks, ComesTo, is_file, is_text};
 ghost use Rattle.asking.specs.declared.arguments.Command.{Command};
 ghost use Rattle.asking.specs.declared.arguments.TheConstants.{USAGE};
 
@@ -40,24 +40,38 @@ impl Error for Misused {}
 pub enum Command<'a> {
     Help,
     Answer { question: &'a str, pages: &'a str },
+    // Neither: the arguments make no sense.
+    Misused,
 }
 
-// What the arguments behind the program's name ask for.
+impl<'a> Command<'a> {
+    // What the arguments behind the program's name come to.
+    pub fn from_arguments(arguments: &'a [String]) -> Command<'a>
+        ensures { ComesTo (map string_bytes arguments.now) result }
+    {
+        match arguments {
+            [only] if only.as_str() == "--help" => Command::Help,
+            [question, pages] if is_text(question.as_str()) && is_file(pages.as_str()) => {
+                Command::Answer {
+                    question: question.as_str(),
+                    pages: pages.as_str(),
+                }
+            }
+            _ => Command::Misused,
+        }
+    }
+}
+
+// The command that arguments ask for, if they make sense.
 impl<'a> TryFrom<&'a [String]> for Command<'a> {
     type Error = Misused;
 
     ghost try_from_gives = { λ arguments result. MatchResult result (Asks (map string_bytes arguments.now)) (λ _. (c : Command) → Asks (map string_bytes arguments.now) c → ⊥) };
 
     fn try_from(arguments: &'a [String]) -> Result<Command<'a>, Misused> {
-        match arguments {
-            [only] if only.as_str() == "--help" => Ok(Command::Help),
-            [question, pages] if is_text(question.as_str()) && is_file(pages.as_str()) => {
-                Ok(Command::Answer {
-                    question: question.as_str(),
-                    pages: pages.as_str(),
-                })
-            }
-            _ => Err(Misused),
+        match Command::from_arguments(arguments) {
+            Command::Misused => Err(Misused),
+            command => Ok(command),
         }
     }
 }

@@ -3,10 +3,13 @@ ghost use Rattle.std.specs.Prelude.{Some};
 ghost use Rattle.asking.specs.Replies.{told};
 
 use crate::listing::*;
+use messages::lines::AtLine;
 use messages::quotes::quote;
 use pagefile::{PageFileError, decode};
 use reference::answering::*;
 use reference::ask;
+use reference_planning::faults::UnsoundIn;
+use reference_reading::faults::FaultIn;
 use std::alloc::{AllocError, Global};
 use std::fmt;
 
@@ -35,12 +38,16 @@ impl From<AllocError> for Failure {
 }
 
 // The line for a question that was refused. An Err stands where no memory is left for the line, as `try_map_err` takes it.
-fn refused(heap: Global, refusal: Refusal) -> Result<Failure, Failure> {
+fn refused(heap: Global, text: &[u8], refusal: Refusal) -> Result<Failure, Failure> {
     match refusal {
-        Refusal::NotAQuestion(error) => Ok(Failure::Said(format!(in heap;
-            "ask: not a question: {error}"
-        )?)),
-        Refusal::NotSound(error) => {
+        Refusal::NotAQuestion(AtLine { line, fault }) => {
+            let fault = FaultIn { text, fault };
+            let error = AtLine { line, fault };
+            Ok(Failure::Said(format!(in heap; "ask: not a question: {error}")?))
+        }
+        Refusal::NotSound(AtLine { line, fault }) => {
+            let fault = UnsoundIn { text, fault };
+            let error = AtLine { line, fault };
             Ok(Failure::Said(format!(in heap; "ask: not sound: {error}")?))
         }
         Refusal::OutOfMemory => Ok(Failure::OutOfMemory),
@@ -63,7 +70,9 @@ fn broken(heap: Global, name: &str, error: PageFileError) -> Result<Failure, Fai
 // The rows that a question comes to on the pages of the file `name`, as they are printed.
 pub fn reply(heap: Global, text: &[u8], name: &str, pages: &[u8]) -> Result<Vec<u8>, Failure> {
     let words = decode(heap, pages).try_map_err(|error| broken(heap, name, error))?;
-    let answer = ask(heap, text, words.as_slice()).try_map_err(|refusal| refused(heap, refusal))?;
+    let answer = ask(heap, text, words.as_slice()).try_map_err(|refusal| refused(
+        heap, text, refusal,
+    ))?;
     Ok(list_rows(heap, answer.rows.as_slice())?)
 }
 

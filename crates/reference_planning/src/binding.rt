@@ -4,21 +4,22 @@ use crate::faults::*;
 use crate::plans::*;
 use reference_reading::names::find;
 use reference_reading::questions::*;
+use reference_reading::spans::*;
 use reference_values::values::*;
 
 // What a step stands behind: the tables, the columns, and the line that brought these.
 #[derive(Clone, Copy)]
-pub struct Before<'b, 't> {
-    pub tables: Tables<'b, 't>,
-    pub columns: &'b Columns<'t>,
-    pub line: &'t [u8],
+pub struct Before<'b> {
+    pub tables: Tables<'b>,
+    pub columns: &'b Columns,
+    pub line: Span,
 }
 
 // A column, and where it stands.
 #[derive(Clone, Copy)]
-pub struct Place<'t> {
+pub struct Place {
     pub at: usize,
-    pub column: Column<'t>,
+    pub column: Column,
 }
 
 // A fault holds the word itself, so this is no `impl Display`.
@@ -57,14 +58,14 @@ impl Kinds {
     }
 
     // A number on top, or the fault that it isn't one.
-    fn number<'t>(&mut self, fault: Unsound<'t>) -> Result<(), Unsound<'t>> {
+    fn number(&mut self, fault: Unsound) -> Result<(), Unsound> {
         match self.pop() {
             Kind::Num => Ok(()),
             Kind::Word => Err(fault),
         }
     }
 
-    fn apply<'t>(&mut self, operator: Operator) -> Result<(), Unsound<'t>> {
+    fn apply(&mut self, operator: Operator) -> Result<(), Unsound> {
         let word = spelling(operator);
         if compares(operator) {
             if self.pop() != self.pop() {
@@ -77,7 +78,7 @@ impl Kinds {
         Ok(())
     }
 
-    fn choose<'t>(&mut self) -> Result<Kind, Unsound<'t>> {
+    fn choose(&mut self) -> Result<Kind, Unsound> {
         let no = self.pop();
         let yes = self.pop();
         self.number(Unsound::WantsNumber("if"))?;
@@ -95,10 +96,11 @@ pub struct TypedCode {
     pub kind: Kind,
 }
 
-impl<'b, 't> Before<'b, 't> {
-    pub fn place(self, name: &'t [u8]) -> Result<Place<'t>, Unsound<'t>> {
+impl<'b> Before<'b> {
+    pub fn place(self, name: Span) -> Result<Place, Unsound> {
         let columns = self.columns.all.as_slice();
-        let at = find(columns, name).ok_or(Unsound::NoColumn(name, self.line))?;
+        let text = self.tables.text;
+        let at = find(text, columns, name.of(text)).ok_or(Unsound::NoColumn(name, self.line))?;
         Ok(Place {
             at,
             column: columns[at],
@@ -106,11 +108,7 @@ impl<'b, 't> Before<'b, 't> {
     }
 
     // What an item does, and the kind of what it leaves on the stack.
-    fn bind_item(
-        self,
-        kinds: &mut Kinds,
-        item: Item<'t>,
-    ) -> Result<(Instruction, Kind), Unsound<'t>> {
+    fn bind_item(self, kinds: &mut Kinds, item: Item) -> Result<(Instruction, Kind), Unsound> {
         match item {
             Item::Number(n) => Ok((Instruction::Push(Value::Number(n)), Kind::Num)),
             Item::Word(w) => Ok((Instruction::Push(Value::Word(w)), Kind::Word)),
@@ -136,7 +134,7 @@ impl<'b, 't> Before<'b, 't> {
     }
 
     // No `map`, as in `places`.
-    pub fn bind(self, items: &[Item<'t>]) -> Result<TypedCode, Unsound<'t>> {
+    pub fn bind(self, items: &[Item]) -> Result<TypedCode, Unsound> {
         let mut code = Vec::new(self.tables.heap);
         let mut kinds = Kinds {
             stack: Vec::new(self.tables.heap),

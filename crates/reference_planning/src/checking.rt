@@ -5,17 +5,16 @@ use crate::faults::*;
 use crate::plans::*;
 use reference_reading::names::find;
 use reference_reading::questions::*;
+use reference_reading::spans::*;
 use std::alloc::Global;
 
 const MOST_COLUMNS: usize = 64;
 
-// One to 64 columns, all of different names.
-impl<'t> TryFrom<Vec<Column<'t>>> for Columns<'t> {
-    type Error = Unsound<'t>;
-
-    ghost try_from_gives = { λ all result. IfOk result (λ columns. columns.all ≡ all) };
-
-    fn try_from(all: Vec<Column<'t>>) -> Result<Columns<'t>, Unsound<'t>> {
+impl Columns {
+    // One to 64 columns, all of different names.
+    pub fn new(text: &[u8], all: Vec<Column>) -> Result<Columns, Unsound>
+        ensures { IfOk result (λ columns. columns.all ≡ all) }
+    {
         if all.is_empty() {
             return Err(Unsound::NoColumns);
         }
@@ -23,7 +22,7 @@ impl<'t> TryFrom<Vec<Column<'t>>> for Columns<'t> {
             return Err(Unsound::TooManyColumns(all.len()));
         }
         for (i, column) in all.iter().enumerate() {
-            if find(&all[..i], column.name).is_some() {
+            if find(text, &all[..i], column.name.of(text)).is_some() {
                 return Err(Unsound::SameColumn(column.name));
             }
         }
@@ -32,7 +31,7 @@ impl<'t> TryFrom<Vec<Column<'t>>> for Columns<'t> {
 }
 
 // A column's pages lie below the border, also where it has no rows.
-fn check_pages<'t>(table: &TableDecl<'t>, border: u64) -> Result<(), Unsound<'t>> {
+fn check_pages(table: &TableDecl, border: u64) -> Result<(), Unsound> {
     let pages = table.rows.div_ceil(PAGE_WORDS);
     let beyond = table
         .columns
@@ -46,42 +45,43 @@ fn check_pages<'t>(table: &TableDecl<'t>, border: u64) -> Result<(), Unsound<'t>
 
 // The tables that a question declares.
 #[derive(Clone, Copy)]
-pub struct Tables<'b, 't> {
+pub struct Tables<'b> {
     pub heap: Global,
-    pub all: &'b [TableDecl<'t>],
+    pub text: &'b [u8],
+    pub all: &'b [TableDecl],
 }
 
-impl<'t> Tables<'_, 't> {
-    pub fn find(self, name: &'t [u8]) -> Result<usize, Unsound<'t>>
+impl Tables<'_> {
+    pub fn find(self, name: Span) -> Result<usize, Unsound>
         ensures { IfOk result (λ i. i < length self.entry.all.now) }
     {
-        find(self.all, name).ok_or(Unsound::NoTable(name))
+        find(self.text, self.all, name.of(self.text)).ok_or(Unsound::NoTable(name))
     }
 
     // The columns of a table.
-    pub fn columns_of(self, table: &TableDecl<'t>) -> Result<Columns<'t>, Unsound<'t>> {
+    pub fn columns_of(self, table: &TableDecl) -> Result<Columns, Unsound> {
         let columns: Vec<Column> = table
             .columns
             .iter()
             .map(|stored| stored.column)
             .collect(self.heap)?;
-        Columns::try_from(columns)
+        Columns::new(self.text, columns)
     }
 
     fn check_table(
         self,
-        before: &[TableDecl<'t>],
-        table: &TableDecl<'t>,
+        before: &[TableDecl],
+        table: &TableDecl,
         border: u64,
-    ) -> Result<(), Unsound<'t>> {
-        if find(before, table.name).is_some() {
+    ) -> Result<(), Unsound> {
+        if find(self.text, before, table.name.of(self.text)).is_some() {
             return Err(Unsound::SameTable(table.name));
         }
         let _ = self.columns_of(table)?;
         check_pages(table, border)
     }
 
-    pub fn check(self, border: u64) -> Result<(), NotSound<'t>> {
+    pub fn check(self, border: u64) -> Result<(), NotSound> {
         for (at, table) in self.all.iter().enumerate() {
             self.check_table(&self.all[..at], table, border)
                 .map_err(|fault| NotSound {

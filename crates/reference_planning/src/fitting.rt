@@ -5,6 +5,7 @@ use crate::faults::*;
 use crate::plans::*;
 use reference_reading::names::find;
 use reference_reading::questions::*;
+use reference_reading::spans::*;
 
 // What an aggregate does, and the kind of what it comes to.
 #[derive(Clone, Copy)]
@@ -13,16 +14,22 @@ struct Folding {
     kind: Kind,
 }
 
-impl<'b, 't> Before<'b, 't> {
+impl<'b> Before<'b> {
     // What a step does, where it leaves the columns as they are.
-    fn same_columns(self, action: Action) -> Result<Bound<'t>, Unsound<'t>> {
+    fn same_columns(self, action: Action) -> Result<Bound, Unsound> {
         let columns = Columns {
             all: self.columns.all.clone()?,
         };
         Ok(Bound { action, columns })
     }
 
-    fn keep(self, items: &[Item<'t>]) -> Result<Bound<'t>, Unsound<'t>> {
+    // What a step does that brings columns.
+    fn new_columns(self, columns: Vec<Column>, action: Action) -> Result<Bound, Unsound> {
+        let columns = Columns::new(self.tables.text, columns)?;
+        Ok(Bound { action, columns })
+    }
+
+    fn keep(self, items: &[Item]) -> Result<Bound, Unsound> {
         let bound = self.bind(items)?;
         if bound.kind != Kind::Num {
             return Err(Unsound::WantsNumber("keep"));
@@ -30,19 +37,18 @@ impl<'b, 't> Before<'b, 't> {
         self.same_columns(Action::Keep(bound.code))
     }
 
-    fn make(self, make: &Make<'t>) -> Result<Bound<'t>, Unsound<'t>> {
+    fn make(self, make: &Make) -> Result<Bound, Unsound> {
         let bound = self.bind(make.code.as_slice())?;
         let mut columns = self.columns.all.clone()?;
         columns.push(Column {
             name: make.name,
             kind: bound.kind,
         })?;
-        new_columns(columns, Action::Make(bound.code))
+        self.new_columns(columns, Action::Make(bound.code))
     }
 
-    // Columns by their names, and where they stand. No `map`: a closure that holds `Before`, or its columns and its
-    // line, was refused, since their references would stand at several lifetimes at once.
-    fn places(self, names: &[&'t [u8]]) -> Result<(Vec<Column<'t>>, Vec<usize>), Unsound<'t>> {
+    // Columns by their names, and where they stand. No `map`, since two lists grow.
+    fn places(self, names: &[Span]) -> Result<(Vec<Column>, Vec<usize>), Unsound> {
         let mut columns = Vec::new(self.tables.heap);
         let mut positions = Vec::new(self.tables.heap);
         for name in names.iter() {
@@ -53,19 +59,19 @@ impl<'b, 't> Before<'b, 't> {
         Ok((columns, positions))
     }
 
-    fn pick(self, names: &[&'t [u8]]) -> Result<Bound<'t>, Unsound<'t>> {
+    fn pick(self, names: &[Span]) -> Result<Bound, Unsound> {
         let (columns, positions) = self.places(names)?;
-        new_columns(columns, Action::Pick(positions))
+        self.new_columns(columns, Action::Pick(positions))
     }
 
-    fn join(self, join: Join<'t>) -> Result<Bound<'t>, Unsound<'t>> {
+    fn join(self, join: Join) -> Result<Bound, Unsound> {
+        let text = self.tables.text;
         let table = self.tables.find(join.table)?;
         let others = self.tables.columns_of(&self.tables.all[table])?.all;
         let place = self.place(join.column)?;
-        let other_column = find(others.as_slice(), join.other_column).ok_or(Unsound::NotInTable(
-            join.other_column,
-            join.table,
-        ))?;
+        let other_column = find(text, others.as_slice(), join.other_column.of(text)).ok_or(
+            Unsound::NotInTable(join.other_column, join.table),
+        )?;
         if others[other_column].kind != place.column.kind {
             return Err(Unsound::TypesDiffer(join.column, join.other_column));
         }
@@ -78,14 +84,14 @@ impl<'b, 't> Before<'b, 't> {
             other_width: others.len(),
             stays: join.stays,
         });
-        new_columns(columns, action)
+        self.new_columns(columns, action)
     }
 
     fn of_column<F: FnOnce(usize) -> Aggregation>(
         self,
-        name: &'t [u8],
+        name: Span,
         of: F,
-    ) -> Result<Folding, Unsound<'t>>
+    ) -> Result<Folding, Unsound>
         requires { F.IsAlwaysCallable of }
     {
         let place = self.place(name)?;
@@ -95,7 +101,7 @@ impl<'b, 't> Before<'b, 't> {
         })
     }
 
-    fn aggregate(self, aggregate: Aggregate<&'t [u8]>) -> Result<Folding, Unsound<'t>> {
+    fn aggregate(self, aggregate: Aggregate<Span>) -> Result<Folding, Unsound> {
         match aggregate {
             Aggregate::Count => Ok(Folding {
                 aggregation: Aggregate::Count,
@@ -115,7 +121,7 @@ impl<'b, 't> Before<'b, 't> {
     }
 
     // No `map`, as in `places`.
-    fn group(self, group: &Group<'t>) -> Result<Bound<'t>, Unsound<'t>> {
+    fn group(self, group: &Group) -> Result<Bound, Unsound> {
         let (mut columns, keys) = self.places(group.keys.as_slice())?;
         let mut aggregations = Vec::new(self.tables.heap);
         for named in group.aggregates.iter() {
@@ -126,31 +132,42 @@ impl<'b, 't> Before<'b, 't> {
                 kind: folding.kind,
             })?;
         }
-        new_columns(columns, Action::Group(Grouping { keys, aggregations }))
+        self.new_columns(columns, Action::Group(Grouping { keys, aggregations }))
     }
 
-    // No `map`, as in `places`.
-    fn order(self, keys: &[SortKey<&'t [u8]>]) -> Result<Bound<'t>, Unsound<'t>> {
-        let mut sort_columns = Vec::new(self.tables.heap);
-        for key in keys.iter() {
-            sort_columns.push(SortKey {
-                column: self.place(key.column)?.at,
-                down: key.down,
-            })?;
-        }
+    fn order(self, keys: &[SortKey<Span>]) -> Result<Bound, Unsound> {
+        let sort_columns: Vec<SortColumn> = keys
+            .iter()
+            .map(|key| -> Result<SortColumn, Unsound> {
+                Ok(SortKey {
+                    column: self.place(key.column)?.at,
+                    down: key.down,
+                })
+            })
+            .try_collect(self.tables.heap)?;
         self.same_columns(Action::Order(sort_columns))
     }
 
-    fn unite(self, name: &'t [u8]) -> Result<Bound<'t>, Unsound<'t>> {
+    // Whether these are the columns, by name and kind.
+    fn has_columns(self, others: &[Column]) -> bool {
+        let text = self.tables.text;
+        let columns = self.columns.all.as_slice();
+        columns.len() == others.len()
+            && columns.iter().zip(others.iter()).all(|(column, other)| {
+                column.name.same(other.name, text) && column.kind == other.kind
+            })
+    }
+
+    fn unite(self, name: Span) -> Result<Bound, Unsound> {
         let table = self.tables.find(name)?;
         let others = self.tables.columns_of(&self.tables.all[table])?;
-        if self.columns.all.as_slice() != others.all.as_slice() {
+        if !self.has_columns(others.all.as_slice()) {
             return Err(Unsound::OtherColumns(name, self.line));
         }
         self.same_columns(Action::Unite(table))
     }
 
-    pub fn fit(self, step: &Step<'t>) -> Result<Bound<'t>, Unsound<'t>> {
+    pub fn fit(self, step: &Step) -> Result<Bound, Unsound> {
         match step {
             Step::Keep(items) => self.keep(items.as_slice()),
             Step::Make(made) => self.make(made),
@@ -164,10 +181,4 @@ impl<'b, 't> Before<'b, 't> {
             Step::Distinct => self.same_columns(Action::Distinct),
         }
     }
-}
-
-// What a step does that brings columns.
-fn new_columns<'t>(columns: Vec<Column<'t>>, action: Action) -> Result<Bound<'t>, Unsound<'t>> {
-    let columns = Columns::try_from(columns)?;
-    Ok(Bound { action, columns })
 }

@@ -4,9 +4,10 @@ use crate::checking::*;
 use crate::faults::*;
 use crate::plans::*;
 use reference_reading::questions::*;
+use reference_reading::spans::*;
 use std::alloc::Global;
 
-fn start<'t>(tables: Tables<'_, 't>, source: &Source<'t>) -> Result<Plan<'t>, Unsound<'t>> {
+fn start(tables: Tables<'_>, source: &Source) -> Result<Plan, Unsound> {
     let table = tables.find(source.table)?;
     let columns = tables.columns_of(&tables.all[table])?;
     Ok(Plan {
@@ -16,14 +17,9 @@ fn start<'t>(tables: Tables<'_, 't>, source: &Source<'t>) -> Result<Plan<'t>, Un
     })
 }
 
-impl<'t> Plan<'t> {
+impl Plan {
     // One step more: what it does, and the columns behind it.
-    fn extend(
-        &mut self,
-        tables: Tables<'_, 't>,
-        line: &'t [u8],
-        step: &Step<'t>,
-    ) -> Result<(), Unsound<'t>> {
+    fn extend(&mut self, tables: Tables<'_>, line: Span, step: &Step) -> Result<(), Unsound> {
         let before = Before {
             tables,
             columns: &self.columns,
@@ -37,13 +33,10 @@ impl<'t> Plan<'t> {
 }
 
 // The plan of a sound question whose tables lie on `border` pages, or what isn't sound.
-pub fn plan<'t>(
-    heap: Global,
-    question: &Question<'t>,
-    border: u64,
-) -> Result<Plan<'t>, NotSound<'t>> {
+pub fn plan(heap: Global, text: &[u8], question: &Question, border: u64) -> Result<Plan, NotSound> {
     let tables = Tables {
         heap,
+        text,
         all: question.tables.as_slice(),
     };
     let source = &question.source;
@@ -52,14 +45,14 @@ pub fn plan<'t>(
         line: source.line,
         fault,
     })?;
-    let mut line = source.text;
+    let mut line = source.span;
     for statement in question.steps.iter() {
         plan.extend(tables, line, &statement.step)
             .map_err(|fault| NotSound {
                 line: statement.line,
                 fault,
             })?;
-        line = statement.text;
+        line = statement.span;
     }
     Ok(plan)
 }

@@ -55,23 +55,23 @@ pub enum Action {
 
 // Columns: one to 64.
 #[derive(Drop)]
-pub struct Columns<'t> {
-    pub all: Vec<Column<'t>>,
+pub struct Columns {
+    pub all: Vec<Column>,
     ghost any: { 1 ≤ vec_len all },
     ghost few: { vec_len all ≤ 64 },
 }
 
 // What a step does, and the columns behind it.
 #[derive(Drop)]
-pub struct Bound<'t> {
+pub struct Bound {
     pub action: Action,
-    pub columns: Columns<'t>,
+    pub columns: Columns,
 }
 
 // The table to begin with, what to do step by step, and the columns behind the last step.
 #[derive(Drop)]
-pub struct Plan<'t> {
+pub struct Plan {
     pub source: usize,
     pub actions: Vec<Action>,
-    pub columns: Columns<'t>,
+    pub columns: Columns,
 }

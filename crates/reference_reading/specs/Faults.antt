@@ -1,6 +1,7 @@
 -- Why a text is no question, in words.
 use Rattle.std.specs.Prelude.{ℕ, List, ◌++◌, codes}
 use Rattle.messages.specs.Quotes.{quoted}
+use Rattle.reference_reading.specs.Spans.{part}
 use Rattle.reference_reading.specs.declared.faults.Wanted.{Wanted}
 use Rattle.reference_reading.specs.declared.faults.Wanted.TheVariants.{Name, Number, «Type», Value, Operator, Aggregate, Join, On, Gets, Colon, Comma, Close, Then, Else, NoneOf, End, TableOrFrom, Step}
 use Rattle.reference_reading.specs.declared.faults.Fault.{Fault}
@@ -28,13 +29,13 @@ wanted_told TableOrFrom = codes "'table' or 'from'"
 wanted_told Step = codes "a step"
 
 -- what is wrong, with the part of the text that is
-abbrev pub fault_told : Fault → List ℕ
-fault_told OpenQuote = codes "a quote isn't closed"
-fault_told (LongWord word) = quoted word.now ++ codes " has more than seven bytes"
-fault_told (LargeNumber digits) = quoted digits.now ++ codes " isn't below 2^63"
-fault_told (NotANumber word) = quoted word.now ++ codes " is neither a name nor a number"
-fault_told (StraySign sign) = quoted sign.now ++ codes " has no meaning here"
-fault_told (Found wanted found) = wanted_told wanted ++ codes " expected, " ++ quoted found.now ++ codes " found"
-fault_told (Ends wanted) = wanted_told wanted ++ codes " expected, the line ends"
-fault_told NoFrom = codes "the text ends without 'from'"
-fault_told OutOfMemory = codes "out of memory"
+abbrev pub fault_told : List ℕ → Fault → List ℕ
+fault_told text OpenQuote = codes "a quote isn't closed"
+fault_told text (LongWord word) = quoted (part text word) ++ codes " has more than seven bytes"
+fault_told text (LargeNumber digits) = quoted (part text digits) ++ codes " isn't below 2^63"
+fault_told text (NotANumber word) = quoted (part text word) ++ codes " is neither a name nor a number"
+fault_told text (StraySign sign) = quoted (part text sign) ++ codes " has no meaning here"
+fault_told text (Found wanted found) = wanted_told wanted ++ codes " expected, " ++ quoted (part text found) ++ codes " found"
+fault_told text (Ends wanted) = wanted_told wanted ++ codes " expected, the line ends"
+fault_told text NoFrom = codes "the text ends without 'from'"
+fault_told text OutOfMemory = codes "out of memory"

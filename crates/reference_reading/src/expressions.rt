@@ -103,14 +103,14 @@ impl Mark {
 }
 
 #[derive(Drop)]
-struct Builder<'t> {
-    code: Vec<Item<'t>>,
+struct Builder {
+    code: Vec<Item>,
     marks: Vec<Mark>,
     state: State,
 }
 
-impl<'t> Builder<'t> {
-    fn feed(&mut self, piece: Piece<'t>) -> Result<(), Fault<'t>> {
+impl Builder {
+    fn feed(&mut self, piece: Piece) -> Result<(), Fault> {
         match self.state {
             State::Operand => self.operand(piece),
             State::BehindNone => self.behind_none(piece),
@@ -118,23 +118,23 @@ impl<'t> Builder<'t> {
         }
     }
 
-    fn value(&mut self, item: Item<'t>) -> Result<(), Fault<'t>> {
+    fn value(&mut self, item: Item) -> Result<(), Fault> {
         self.code.push(item)?;
         self.state = State::Operator;
         Ok(())
     }
 
-    fn open(&mut self, mark: Mark) -> Result<(), Fault<'t>> {
+    fn open(&mut self, mark: Mark) -> Result<(), Fault> {
         self.marks.push(mark)?;
         self.state = State::Operand;
         Ok(())
     }
 
-    fn operand(&mut self, piece: Piece<'t>) -> Result<(), Fault<'t>> {
+    fn operand(&mut self, piece: Piece) -> Result<(), Fault> {
         match piece.token {
             Token::Number(n) => self.value(Item::Number(n)),
             Token::Quoted(w) => self.value(Item::Word(w)),
-            Token::Name => self.value(Item::Column(piece.text)),
+            Token::Name => self.value(Item::Column(piece.span)),
             Token::Sign(Sign::Open) => self.open(Mark::Paren),
             Token::Keyword(keyword) => self.prefix(keyword, piece),
             _ => Err(piece.instead_of(Wanted::Value)),
@@ -142,7 +142,7 @@ impl<'t> Builder<'t> {
     }
 
     // `if` may only begin an expression, and `not` stands only where a comparison may.
-    fn prefix(&mut self, keyword: Keyword, piece: Piece<'t>) -> Result<(), Fault<'t>> {
+    fn prefix(&mut self, keyword: Keyword, piece: Piece) -> Result<(), Fault> {
         match keyword {
             Keyword::None => {
                 self.state = State::BehindNone;
@@ -165,7 +165,7 @@ impl<'t> Builder<'t> {
         }
     }
 
-    fn behind_none(&mut self, piece: Piece<'t>) -> Result<(), Fault<'t>> {
+    fn behind_none(&mut self, piece: Piece) -> Result<(), Fault> {
         match piece.token {
             Token::Sign(Sign::Open) => self.open(Mark::NonePart),
             Token::Keyword(Keyword::Num) => self.value(Item::Null(Kind::Num)),
@@ -174,14 +174,14 @@ impl<'t> Builder<'t> {
         }
     }
 
-    fn operator(&mut self, piece: Piece<'t>) -> Result<(), Fault<'t>> {
+    fn operator(&mut self, piece: Piece) -> Result<(), Fault> {
         match piece.token.operator() {
             Some(operator) => self.infix(operator, piece),
             None => self.close(piece),
         }
     }
 
-    fn infix(&mut self, operator: Operator, piece: Piece<'t>) -> Result<(), Fault<'t>> {
+    fn infix(&mut self, operator: Operator, piece: Piece) -> Result<(), Fault> {
         let level = Level::from(operator);
         if level == Level::Comparison {
             self.settle(Level::Sum)?;
@@ -195,7 +195,7 @@ impl<'t> Builder<'t> {
     }
 
     // Writes the operators that wait and bind at least as tightly as `level`.
-    fn settle(&mut self, level: Level) -> Result<(), Fault<'t>> {
+    fn settle(&mut self, level: Level) -> Result<(), Fault> {
         while let Some(mark) = self.marks.pop_if(|mark| Level::from(*mark) >= level) {
             match mark {
                 Mark::Operator(operator) => self.code.push(Item::Apply(operator))?,
@@ -206,7 +206,7 @@ impl<'t> Builder<'t> {
     }
 
     // Writes all that waits up to an open bracket or part of an `if`, which is taken off.
-    fn unwind(&mut self) -> Result<Option<Mark>, Fault<'t>> {
+    fn unwind(&mut self) -> Result<Option<Mark>, Fault> {
         while let Some(mark) = self.marks.pop() {
             match mark {
                 Mark::Operator(operator) => self.code.push(Item::Apply(operator))?,
@@ -219,7 +219,7 @@ impl<'t> Builder<'t> {
     }
 
     // A piece that ends what stands before it.
-    fn close(&mut self, piece: Piece<'t>) -> Result<(), Fault<'t>> {
+    fn close(&mut self, piece: Piece) -> Result<(), Fault> {
         if !piece.token.ends_part() {
             return Err(piece.instead_of(Wanted::Operator));
         }
@@ -233,7 +233,7 @@ impl<'t> Builder<'t> {
         }
     }
 
-    fn finish(&mut self) -> Result<(), Fault<'t>> {
+    fn finish(&mut self) -> Result<(), Fault> {
         match self.state {
             State::Operand => return Err(Fault::Ends(Wanted::Value)),
             State::BehindNone => return Err(Fault::Ends(Wanted::NoneOf)),
@@ -247,7 +247,7 @@ impl<'t> Builder<'t> {
 }
 
 // The postfix code of the rest of the line.
-pub fn read_expression<'t>(line: &mut Line<'t>) -> Result<Vec<Item<'t>>, Fault<'t>> {
+pub fn read_expression(line: &mut Line) -> Result<Vec<Item>, Fault> {
     let heap = line.heap();
     let mut builder = Builder {
         code: Vec::new(heap),

@@ -3,6 +3,7 @@ ghost use Rattle.std.specs.Prelude.{◌≡◌, Some};
 ghost use Rattle.reference_reading.specs.Faults.{fault_told, wanted_told};
 ghost use Rattle.reference_reading.specs.declared.faults.Fault.TheVariants.{OutOfMemory};
 
+use crate::spans::*;
 use messages::lines::AtLine;
 use messages::quotes::Quoted;
 use std::alloc::{AllocError, AllocFailed};
@@ -59,34 +60,42 @@ impl fmt::Display for Wanted {
 }
 
 #[derive(Clone, Copy)]
-pub enum Fault<'t> {
+pub enum Fault {
     OpenQuote,
-    LongWord(&'t [u8]),
-    LargeNumber(&'t [u8]),
+    LongWord(Span),
+    LargeNumber(Span),
     // It begins with a digit and isn't a number.
-    NotANumber(&'t [u8]),
-    StraySign(&'t [u8]),
-    Found { wanted: Wanted, found: &'t [u8] },
+    NotANumber(Span),
+    StraySign(Span),
+    Found { wanted: Wanted, found: Span },
     // The line ends where something more is wanted.
     Ends(Wanted),
     NoFrom,
     OutOfMemory,
 }
 
-impl fmt::Display for Fault<'_> {
-    ghost output = { λ fault. Some (fault_told fault) };
+// A fault beside the text that it is in, whose parts are quoted.
+#[derive(Clone, Copy)]
+pub struct FaultIn<'t> {
+    pub text: &'t [u8],
+    pub fault: Fault,
+}
+
+impl fmt::Display for FaultIn<'_> {
+    ghost output = { λ told. Some (fault_told told.text.now told.fault) };
 
     fn fmt<W: fmt::Write>(&self, f: &mut fmt::Formatter<W>) -> fmt::Result {
-        match *self {
+        let quoted = |part: Span| Quoted(part.of(self.text));
+        match self.fault {
             Fault::OpenQuote => write!(f, "a quote isn't closed"),
-            Fault::LongWord(word) => write!(f, "{} has more than seven bytes", Quoted(word)),
-            Fault::LargeNumber(digits) => write!(f, "{} isn't below 2^63", Quoted(digits)),
+            Fault::LongWord(word) => write!(f, "{} has more than seven bytes", quoted(word)),
+            Fault::LargeNumber(digits) => write!(f, "{} isn't below 2^63", quoted(digits)),
             Fault::NotANumber(word) => {
-                write!(f, "{} is neither a name nor a number", Quoted(word))
+                write!(f, "{} is neither a name nor a number", quoted(word))
             }
-            Fault::StraySign(sign) => write!(f, "{} has no meaning here", Quoted(sign)),
+            Fault::StraySign(sign) => write!(f, "{} has no meaning here", quoted(sign)),
             Fault::Found { wanted, found } => {
-                write!(f, "{wanted} expected, {} found", Quoted(found))
+                write!(f, "{wanted} expected, {} found", quoted(found))
             }
             Fault::Ends(wanted) => write!(f, "{wanted} expected, the line ends"),
             Fault::NoFrom => write!(f, "the text ends without 'from'"),
@@ -96,10 +105,10 @@ impl fmt::Display for Fault<'_> {
 }
 
 // A text that is no question.
-pub type NotAQuestion<'t> = AtLine<Fault<'t>>;
+pub type NotAQuestion = AtLine<Fault>;
 
 // Two impls, since a failed push and a failed collect are two errors; here only a push may fail.
-impl From<AllocError> for Fault<'_> {
+impl From<AllocError> for Fault {
     ghost from_gives = { λ _ fault. fault ≡ OutOfMemory };
 
     fn from(_error: AllocError) -> Self {
@@ -107,7 +116,7 @@ impl From<AllocError> for Fault<'_> {
     }
 }
 
-impl<T: Drop> From<AllocFailed<T>> for Fault<'_> {
+impl<T: Drop> From<AllocFailed<T>> for Fault {
     ghost from_gives = { λ _ fault. fault ≡ OutOfMemory };
 
     fn from(_error: AllocFailed<T>) -> Self {

@@ -2,6 +2,7 @@
 ghost use Rattle.std.specs.Prelude.{◌≡◌, ◌≤◌, length, IfSome};
 
 use crate::faults::*;
+use crate::parts::*;
 use crate::pieces::*;
 use reference_values::values::NUMBER_LIMIT;
 
@@ -23,11 +24,15 @@ fn word_len(rest: &[u8]) -> usize
 }
 
 // What stands behind the blanks at the front.
-pub fn behind_blanks(rest: &[u8]) -> &[u8]
-    ensures { length result.now ≤ length rest.now }
+pub fn behind_blanks(rest: Part<'_>) -> Part<'_>
+    ensures { length result.bytes.now ≤ length rest.entry.bytes.now }
 {
-    let blanks = rest.iter().take_while(|byte| is_blank(**byte)).count();
-    &rest[blanks..]
+    let blanks = rest
+        .bytes
+        .iter()
+        .take_while(|byte| is_blank(**byte))
+        .count();
+    rest.behind(blanks)
 }
 
 // How many bytes the piece at the front takes; a quote takes both its quotes.
@@ -45,15 +50,15 @@ pub fn piece_len(rest: &[u8]) -> Option<usize>
     }
 }
 
-fn number(digits: &[u8]) -> Result<Token, Fault<'_>> {
-    let value = digits.iter().try_fold(0, |value: u64, byte| {
+fn number(digits: Part<'_>) -> Result<Token, Fault> {
+    let value = digits.bytes.iter().try_fold(0, |value: u64, byte| {
         let digit = char::from(*byte).to_digit(10)?;
         Some(value.saturating_mul(10).saturating_add(u64::from(digit)))
     });
     match value {
         Some(value) if value < NUMBER_LIMIT => Ok(Token::Number(value)),
-        Some(_) => Err(Fault::LargeNumber(digits)),
-        None => Err(Fault::NotANumber(digits)),
+        Some(_) => Err(Fault::LargeNumber(digits.span())),
+        None => Err(Fault::NotANumber(digits.span())),
     }
 }
 
@@ -67,11 +72,11 @@ fn word(bytes: &[u8]) -> Option<u64> {
     Some(u64::from_be_bytes(digits))
 }
 
-impl<'t> TryFrom<&'t [u8]> for Sign {
-    type Error = Fault<'t>;
+impl<'t> TryFrom<Part<'t>> for Sign {
+    type Error = Fault;
 
-    fn try_from(bytes: &'t [u8]) -> Result<Sign, Fault<'t>> {
-        match bytes {
+    fn try_from(part: Part<'t>) -> Result<Sign, Fault> {
+        match part.bytes {
             b"(" => Ok(Sign::Open),
             b")" => Ok(Sign::Close),
             b"," => Ok(Sign::Comma),
@@ -86,26 +91,26 @@ impl<'t> TryFrom<&'t [u8]> for Sign {
             b"*" => Ok(Sign::Times),
             b"/" => Ok(Sign::Over),
             b"%" => Ok(Sign::Percent),
-            _ => Err(Fault::StraySign(bytes)),
+            _ => Err(Fault::StraySign(part.span())),
         }
     }
 }
 
-impl<'t> TryFrom<&'t [u8]> for Token {
-    type Error = Fault<'t>;
+impl<'t> TryFrom<Part<'t>> for Token {
+    type Error = Fault;
 
-    fn try_from(bytes: &'t [u8]) -> Result<Token, Fault<'t>> {
-        match bytes {
+    fn try_from(part: Part<'t>) -> Result<Token, Fault> {
+        match part.bytes {
             [b'\'', inner @ .., b'\''] => match word(inner) {
                 Some(word) => Ok(Token::Quoted(word)),
-                None => Err(Fault::LongWord(bytes)),
+                None => Err(Fault::LongWord(part.span())),
             },
-            [b'0'..=b'9', ..] => number(bytes),
-            [first, ..] if is_word_byte(*first) => Ok(match Keyword::from_bytes(bytes) {
+            [b'0'..=b'9', ..] => number(part),
+            [first, ..] if is_word_byte(*first) => Ok(match Keyword::from_bytes(part.bytes) {
                 Some(keyword) => Token::Keyword(keyword),
                 None => Token::Name,
             }),
-            _ => Ok(Token::Sign(Sign::try_from(bytes)?)),
+            _ => Ok(Token::Sign(Sign::try_from(part)?)),
         }
     }
 }

@@ -8,9 +8,11 @@ pub mod faults;
 mod lexing;
 mod lines;
 pub mod names;
+mod parts;
 mod pieces;
 pub mod questions;
 mod reading;
+pub mod spans;
 mod statements;
 
 pub use reading::read;

@@ -4,44 +4,54 @@ ghost use Rattle.std.specs.Prelude.{OnOk};
 
 use crate::faults::*;
 use crate::lexing::*;
+use crate::parts::*;
 use crate::pieces::*;
 use crate::questions::*;
+use crate::spans::*;
 use std::alloc::Global;
 use std::collections::VecDeque;
 
 #[derive(Drop)]
-pub struct Line<'t> {
+pub struct Line {
     // Counted from 1.
     pub number: usize,
     // The line without blanks at its ends and without its note.
-    pub text: &'t [u8],
+    pub span: Span,
     // What is still to be read.
-    pub pieces: VecDeque<Piece<'t>>,
+    pub pieces: VecDeque<Piece>,
 }
 
-impl<'t> Line<'t> {
+impl Line {
     // Cuts a line into pieces, up to its end or a note.
-    pub fn cut(heap: Global, number: usize, line: &'t [u8]) -> Result<Line<'t>, Fault<'t>> {
+    pub fn cut(heap: Global, number: usize, line: Part<'_>) -> Result<Line, Fault> {
         let mut pieces = VecDeque::new(heap);
         let line = behind_blanks(line);
         // What stands behind the last piece.
         let mut behind = line;
-        while let rest @ [first, ..] = behind_blanks(behind) {
+        while let rest @ Part {
+            bytes: [first, ..],
+            ..
+        } = behind_blanks(behind)
+        {
             if *first == b'#' {
                 break;
             }
-            let Some(len) = piece_len(rest) else {
+            let Some(len) = piece_len(rest.bytes) else {
                 return Err(Fault::OpenQuote);
             };
-            let (text, others) = rest.split_at(len);
-            let token = Token::try_from(text)?;
-            pieces.push_back(Piece { token, text })?;
-            behind = others;
+            let part = rest.front(len);
+            let token = Token::try_from(part)?;
+            let span = part.span();
+            pieces.push_back(Piece { token, span })?;
+            behind = rest.behind(len);
         }
-        let text = &line[..line.len() - behind.len()];
+        let span = Span {
+            start: line.start,
+            end: behind.start,
+        };
         Ok(Line {
             number,
-            text,
+            span,
             pieces,
         })
     }
@@ -61,24 +71,24 @@ impl<'t> Line<'t> {
     }
 
     // The next piece, which has to be there.
-    pub fn take(&mut self, wanted: Wanted) -> Result<Piece<'t>, Fault<'t>>
+    pub fn take(&mut self, wanted: Wanted) -> Result<Piece, Fault>
         ensures { OnOk result (Took self.old self.new) }
     {
         self.pieces.pop_front().ok_or(Fault::Ends(wanted))
     }
 
     // name, number and kind differ in a pattern: a closure for it would save one line each.
-    pub fn name(&mut self) -> Result<&'t [u8], Fault<'t>>
+    pub fn name(&mut self) -> Result<Span, Fault>
         ensures { OnOk result (Took self.old self.new) }
     {
         let piece = self.take(Wanted::Name)?;
         match piece.token {
-            Token::Name => Ok(piece.text),
+            Token::Name => Ok(piece.span),
             _ => Err(piece.instead_of(Wanted::Name)),
         }
     }
 
-    pub fn number(&mut self) -> Result<u64, Fault<'t>>
+    pub fn number(&mut self) -> Result<u64, Fault>
         ensures { OnOk result (Took self.old self.new) }
     {
         let piece = self.take(Wanted::Number)?;
@@ -88,7 +98,7 @@ impl<'t> Line<'t> {
         }
     }
 
-    pub fn kind(&mut self) -> Result<Kind, Fault<'t>>
+    pub fn kind(&mut self) -> Result<Kind, Fault>
         ensures { OnOk result (Took self.old self.new) }
     {
         let piece = self.take(Wanted::Type)?;
@@ -99,7 +109,7 @@ impl<'t> Line<'t> {
         }
     }
 
-    pub fn expect(&mut self, token: Token, wanted: Wanted) -> Result<(), Fault<'t>>
+    pub fn expect(&mut self, token: Token, wanted: Wanted) -> Result<(), Fault>
         ensures { OnOk result (Took self.old self.new) }
     {
         let piece = self.take(wanted)?;
@@ -111,7 +121,7 @@ impl<'t> Line<'t> {
     }
 
     // Nothing may come behind.
-    pub fn end(&self) -> Result<(), Fault<'t>> {
+    pub fn end(&self) -> Result<(), Fault> {
         match self.pieces.front() {
             Some(piece) => Err(piece.instead_of(Wanted::End)),
             None => Ok(()),

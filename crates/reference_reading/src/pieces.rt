@@ -1,5 +1,6 @@
 // The words of the language, and the pieces of a line.
 use crate::faults::*;
+use crate::spans::*;
 
 #[derive(Clone, Copy, PartialEq, Eq)]
 pub enum Keyword {
@@ -61,19 +62,19 @@ pub enum Token {
     Quoted(u64),
 }
 
-// A piece of a line, and how it is written.
+// A piece of a line, and where it stands.
 #[derive(Clone, Copy)]
-pub struct Piece<'t> {
+pub struct Piece {
     pub token: Token,
-    pub text: &'t [u8],
+    pub span: Span,
 }
 
-impl<'t> Piece<'t> {
+impl Piece {
     // That it stands where something else is wanted.
-    pub fn instead_of(self, wanted: Wanted) -> Fault<'t> {
+    pub fn instead_of(self, wanted: Wanted) -> Fault {
         Fault::Found {
             wanted,
-            found: self.text,
+            found: self.span,
         }
     }
 }

@@ -1,51 +1,52 @@
 // A question as it was read: its tables, the one that it begins with, its steps. Names are parts of the text.
 use crate::names::Named;
+use crate::spans::*;
 pub use reference_values::kinds::{Kind, Operator};
 
-#[derive(Clone, Copy, PartialEq, Eq)]
-pub struct Column<'t> {
-    pub name: &'t [u8],
+#[derive(Clone, Copy)]
+pub struct Column {
+    pub name: Span,
     pub kind: Kind,
 }
 
-impl Named for Column<'_> {
-    ghost called = { λ column. column.name.now };
+impl Named for Column {
+    ghost called = { λ column. column.name };
 
-    fn name(&self) -> &[u8] {
+    fn name(&self) -> Span {
         self.name
     }
 }
 
 // A column of a table, and the page that it begins on.
 #[derive(Clone, Copy)]
-pub struct StoredColumn<'t> {
-    pub column: Column<'t>,
+pub struct StoredColumn {
+    pub column: Column,
     pub page: u64,
 }
 
 #[derive(Drop)]
-pub struct TableDecl<'t> {
+pub struct TableDecl {
     pub line: usize,
-    pub name: &'t [u8],
+    pub name: Span,
     pub rows: u64,
-    pub columns: Vec<StoredColumn<'t>>,
+    pub columns: Vec<StoredColumn>,
 }
 
-impl Named for TableDecl<'_> {
-    ghost called = { λ table. table.name.now };
+impl Named for TableDecl {
+    ghost called = { λ table. table.name };
 
-    fn name(&self) -> &[u8] {
+    fn name(&self) -> Span {
         self.name
     }
 }
 
 // An item of postfix code: a value that goes onto the stack, or what is done with those on top of it.
 #[derive(Clone, Copy)]
-pub enum Item<'t> {
+pub enum Item {
     Number(u64),
     Word(u64),
     Null(Kind),
-    Column(&'t [u8]),
+    Column(Span),
     Apply(Operator),
     Not,
     IsNull,
@@ -63,9 +64,9 @@ pub enum Aggregate<C> {
 }
 
 #[derive(Clone, Copy)]
-pub struct NamedAggregate<'t> {
-    pub name: &'t [u8],
-    pub aggregate: Aggregate<&'t [u8]>,
+pub struct NamedAggregate {
+    pub name: Span,
+    pub aggregate: Aggregate<Span>,
 }
 
 #[derive(Clone, Copy)]
@@ -76,58 +77,58 @@ pub struct SortKey<C> {
 
 // With which table, on which columns of both, and whether a row without a match stays.
 #[derive(Clone, Copy)]
-pub struct Join<'t> {
-    pub table: &'t [u8],
-    pub column: &'t [u8],
-    pub other_column: &'t [u8],
+pub struct Join {
+    pub table: Span,
+    pub column: Span,
+    pub other_column: Span,
     pub stays: bool,
 }
 
 #[derive(Drop)]
-pub struct Group<'t> {
-    pub keys: Vec<&'t [u8]>,
-    pub aggregates: Vec<NamedAggregate<'t>>,
+pub struct Group {
+    pub keys: Vec<Span>,
+    pub aggregates: Vec<NamedAggregate>,
 }
 
 #[derive(Drop)]
-pub struct Make<'t> {
-    pub name: &'t [u8],
-    pub code: Vec<Item<'t>>,
+pub struct Make {
+    pub name: Span,
+    pub code: Vec<Item>,
 }
 
 #[derive(Drop)]
-pub enum Step<'t> {
-    Keep(Vec<Item<'t>>),
-    Make(Make<'t>),
-    Pick(Vec<&'t [u8]>),
-    Join(Join<'t>),
-    Group(Group<'t>),
-    Order(Vec<SortKey<&'t [u8]>>),
+pub enum Step {
+    Keep(Vec<Item>),
+    Make(Make),
+    Pick(Vec<Span>),
+    Join(Join),
+    Group(Group),
+    Order(Vec<SortKey<Span>>),
     Take(u64),
     Skip(u64),
-    Unite(&'t [u8]),
+    Unite(Span),
     Distinct,
 }
 
-// A step, its line's number and its line.
+// A step, its line's number and where its line stands.
 #[derive(Drop)]
-pub struct Statement<'t> {
+pub struct Statement {
     pub line: usize,
-    pub text: &'t [u8],
-    pub step: Step<'t>,
+    pub span: Span,
+    pub step: Step,
 }
 
-// The table that the question begins with, its line's number and its line.
+// The table that the question begins with, its line's number and where its line stands.
 #[derive(Clone, Copy)]
-pub struct Source<'t> {
+pub struct Source {
     pub line: usize,
-    pub text: &'t [u8],
-    pub table: &'t [u8],
+    pub span: Span,
+    pub table: Span,
 }
 
 #[derive(Drop)]
-pub struct Question<'t> {
-    pub tables: Vec<TableDecl<'t>>,
-    pub source: Source<'t>,
-    pub steps: Vec<Statement<'t>>,
+pub struct Question {
+    pub tables: Vec<TableDecl>,
+    pub source: Source,
+    pub steps: Vec<Statement>,
 }

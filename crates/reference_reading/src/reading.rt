@@ -5,6 +5,7 @@ ghost use Rattle.reference_reading.specs.Texts.{TakesLine};
 
 use crate::faults::*;
 use crate::lines::*;
+use crate::parts::*;
 use crate::pieces::*;
 use crate::questions::*;
 use crate::statements::*;
@@ -14,41 +15,42 @@ use std::alloc::Global;
 // Not std's `split_inclusive`: it leaves the line ends, and of these lines it is proved that they have none.
 #[derive(Drop)]
 struct Lines<'t> {
-    rest: &'t [u8],
+    rest: Part<'t>,
 }
 
 impl<'t> Iterator for Lines<'t> {
-    type Item = &'t [u8];
+    type Item = Part<'t>;
 
     ghost next_gives = { TakesLine };
 
-    ghost remaining = { λ lines. at_most (length lines.rest.now) };
+    ghost remaining = { λ lines. at_most (length lines.rest.bytes.now) };
 
-    fn next(&mut self) -> Option<&'t [u8]> {
+    fn next(&mut self) -> Option<Part<'t>> {
         let rest = self.rest;
-        if rest.is_empty() {
+        if rest.bytes.is_empty() {
             return None;
         }
         let end = rest
+            .bytes
             .iter()
             .position(|byte| *byte == b'\n')
-            .unwrap_or(rest.len());
-        self.rest = rest.get(end + 1..).unwrap_or(b"");
-        Some(&rest[..end])
+            .unwrap_or(rest.bytes.len());
+        self.rest = rest.behind(end + 1);
+        Some(rest.front(end))
     }
 }
 
 // A question of which only some lines are read.
 #[derive(Drop)]
-struct Draft<'t> {
-    tables: Vec<TableDecl<'t>>,
-    source: Option<Source<'t>>,
-    steps: Vec<Statement<'t>>,
+struct Draft {
+    tables: Vec<TableDecl>,
+    source: Option<Source>,
+    steps: Vec<Statement>,
 }
 
-impl<'t> Draft<'t> {
+impl Draft {
     // A line before `from`, or `from` itself.
-    fn head(&mut self, mut line: Line<'t>) -> Result<(), Fault<'t>> {
+    fn head(&mut self, mut line: Line) -> Result<(), Fault> {
         let piece = line.take(Wanted::TableOrFrom)?;
         match piece.token {
             Token::Keyword(Keyword::Table) => self.tables.push(read_table(line)?)?,
@@ -58,9 +60,9 @@ impl<'t> Draft<'t> {
         Ok(())
     }
 
-    fn add(&mut self, number: usize, text: &'t [u8]) -> Result<(), Fault<'t>> {
+    fn add(&mut self, number: usize, line: Part<'_>) -> Result<(), Fault> {
         let heap = *self.tables.allocator();
-        let line = Line::cut(heap, number, text)?;
+        let line = Line::cut(heap, number, line)?;
         if line.is_over() {
             return Ok(());
         }
@@ -73,17 +75,21 @@ impl<'t> Draft<'t> {
 }
 
 // The question that a text asks, or the first line that is wrong.
-pub fn read<'t>(heap: Global, text: &'t [u8]) -> Result<Question<'t>, NotAQuestion<'t>> {
+pub fn read(heap: Global, text: &[u8]) -> Result<Question, NotAQuestion> {
     let mut draft = Draft {
         tables: Vec::new(heap),
         source: None,
         steps: Vec::new(heap),
     };
     let mut last = 1;
-    for (line, text) in (1..).zip(Lines { rest: text }) {
+    let rest = Part {
+        start: 0,
+        bytes: text,
+    };
+    for (line, part) in (1..).zip(Lines { rest }) {
         last = line;
         draft
-            .add(line, text)
+            .add(line, part)
             .map_err(|fault| NotAQuestion { line, fault })?;
     }
     let Draft {

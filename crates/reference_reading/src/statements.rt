@@ -7,22 +7,23 @@ use crate::faults::*;
 use crate::lines::*;
 use crate::pieces::*;
 use crate::questions::*;
+use crate::spans::*;
 
 // What stands in a line several times, one behind the other.
-trait Item<'t>: Sized {
-    fn read(line: &mut Line<'t>) -> Result<Self, Fault<'t>>
+trait Item: Sized {
+    fn read(line: &mut Line) -> Result<Self, Fault>
         ensures { OnOk result (Shrank line.old line.new) };
 }
 
 // A name.
-impl<'t> Item<'t> for &'t [u8] {
-    fn read(line: &mut Line<'t>) -> Result<&'t [u8], Fault<'t>> {
+impl Item for Span {
+    fn read(line: &mut Line) -> Result<Span, Fault> {
         line.name()
     }
 }
 
-impl<'t> Item<'t> for StoredColumn<'t> {
-    fn read(line: &mut Line<'t>) -> Result<StoredColumn<'t>, Fault<'t>> {
+impl Item for StoredColumn {
+    fn read(line: &mut Line) -> Result<StoredColumn, Fault> {
         let name = line.name()?;
         let kind = line.kind()?;
         let page = line.number()?;
@@ -31,8 +32,8 @@ impl<'t> Item<'t> for StoredColumn<'t> {
     }
 }
 
-impl<'t> Item<'t> for SortKey<&'t [u8]> {
-    fn read(line: &mut Line<'t>) -> Result<SortKey<&'t [u8]>, Fault<'t>> {
+impl Item for SortKey<Span> {
+    fn read(line: &mut Line) -> Result<SortKey<Span>, Fault> {
         let down = line.is_next(Token::Sign(Sign::Minus));
         if down {
             line.expect(Token::Sign(Sign::Minus), Wanted::Name)?;
@@ -43,7 +44,7 @@ impl<'t> Item<'t> for SortKey<&'t [u8]> {
 }
 
 // The items up to the end of the line.
-fn items<'t, T: Item<'t> + Drop>(line: &mut Line<'t>) -> Result<Vec<T>, Fault<'t>> {
+fn items<T: Item + Drop>(line: &mut Line) -> Result<Vec<T>, Fault> {
     let mut items = Vec::new(line.heap());
     while !line.is_over() {
         items.push(T::read(line)?)?;
@@ -52,7 +53,7 @@ fn items<'t, T: Item<'t> + Drop>(line: &mut Line<'t>) -> Result<Vec<T>, Fault<'t
 }
 
 // NAME ROWS, then a name, a type and a page for each column.
-pub fn read_table<'t>(mut line: Line<'t>) -> Result<TableDecl<'t>, Fault<'t>> {
+pub fn read_table(mut line: Line) -> Result<TableDecl, Fault> {
     let name = line.name()?;
     let rows = line.number()?;
     let columns = items(&mut line)?;
@@ -65,7 +66,7 @@ pub fn read_table<'t>(mut line: Line<'t>) -> Result<TableDecl<'t>, Fault<'t>> {
 }
 
 // Names up to the colon, which is taken too.
-fn group_keys<'t>(line: &mut Line<'t>) -> Result<Vec<&'t [u8]>, Fault<'t>> {
+fn group_keys(line: &mut Line) -> Result<Vec<Span>, Fault> {
     let mut keys = Vec::new(line.heap());
     while !line.is_next(Token::Sign(Sign::Colon)) {
         if line.is_over() {
@@ -77,7 +78,7 @@ fn group_keys<'t>(line: &mut Line<'t>) -> Result<Vec<&'t [u8]>, Fault<'t>> {
     Ok(keys)
 }
 
-fn aggregate<'t>(line: &mut Line<'t>) -> Result<Aggregate<&'t [u8]>, Fault<'t>>
+fn aggregate(line: &mut Line) -> Result<Aggregate<Span>, Fault>
     ensures { OnOk result (Shrank line.old line.new) }
 {
     let piece = line.take(Wanted::Aggregate)?;
@@ -91,7 +92,7 @@ fn aggregate<'t>(line: &mut Line<'t>) -> Result<Aggregate<&'t [u8]>, Fault<'t>>
     }
 }
 
-fn named_aggregate<'t>(line: &mut Line<'t>) -> Result<NamedAggregate<'t>, Fault<'t>>
+fn named_aggregate(line: &mut Line) -> Result<NamedAggregate, Fault>
     ensures { OnOk result (Shrank line.old line.new) }
 {
     let name = line.name()?;
@@ -101,7 +102,7 @@ fn named_aggregate<'t>(line: &mut Line<'t>) -> Result<NamedAggregate<'t>, Fault<
 }
 
 // At least one aggregate, commas between them.
-fn aggregates<'t>(line: &mut Line<'t>) -> Result<Vec<NamedAggregate<'t>>, Fault<'t>> {
+fn aggregates(line: &mut Line) -> Result<Vec<NamedAggregate>, Fault> {
     let mut aggregates = Vec::new(line.heap());
     aggregates.push(named_aggregate(line)?)?;
     while !line.is_over() {
@@ -112,7 +113,7 @@ fn aggregates<'t>(line: &mut Line<'t>) -> Result<Vec<NamedAggregate<'t>>, Fault<
 }
 
 // TABLE on COLUMN = COLUMN
-fn join<'t>(line: &mut Line<'t>, stays: bool) -> Result<Join<'t>, Fault<'t>> {
+fn join(line: &mut Line, stays: bool) -> Result<Join, Fault> {
     let table = line.name()?;
     line.expect(Token::Keyword(Keyword::On), Wanted::On)?;
     let column = line.name()?;
@@ -126,36 +127,36 @@ fn join<'t>(line: &mut Line<'t>, stays: bool) -> Result<Join<'t>, Fault<'t>> {
     })
 }
 
-fn left_join<'t>(line: &mut Line<'t>) -> Result<Join<'t>, Fault<'t>> {
+fn left_join(line: &mut Line) -> Result<Join, Fault> {
     line.expect(Token::Keyword(Keyword::Join), Wanted::Join)?;
     join(line, true)
 }
 
-fn make<'t>(line: &mut Line<'t>) -> Result<Make<'t>, Fault<'t>> {
+fn make(line: &mut Line) -> Result<Make, Fault> {
     let name = line.name()?;
     line.expect(Token::Sign(Sign::Gets), Wanted::Gets)?;
     let code = read_expression(line)?;
     Ok(Make { name, code })
 }
 
-fn group<'t>(line: &mut Line<'t>) -> Result<Group<'t>, Fault<'t>> {
+fn group(line: &mut Line) -> Result<Group, Fault> {
     let keys = group_keys(line)?;
     let aggregates = aggregates(line)?;
     Ok(Group { keys, aggregates })
 }
 
 // The table behind `from`.
-pub fn read_source<'t>(mut line: Line<'t>) -> Result<Source<'t>, Fault<'t>> {
+pub fn read_source(mut line: Line) -> Result<Source, Fault> {
     let table = line.name()?;
     line.end()?;
     Ok(Source {
         line: line.number,
-        text: line.text,
+        span: line.span,
         table,
     })
 }
 
-fn step<'t>(line: &mut Line<'t>) -> Result<Step<'t>, Fault<'t>> {
+fn step(line: &mut Line) -> Result<Step, Fault> {
     let piece = line.take(Wanted::Step)?;
     let Token::Keyword(keyword) = piece.token else {
         return Err(piece.instead_of(Wanted::Step));
@@ -176,12 +177,12 @@ fn step<'t>(line: &mut Line<'t>) -> Result<Step<'t>, Fault<'t>> {
     }
 }
 
-pub fn read_step<'t>(mut line: Line<'t>) -> Result<Statement<'t>, Fault<'t>> {
+pub fn read_step(mut line: Line) -> Result<Statement, Fault> {
     let step = step(&mut line)?;
     line.end()?;
     Ok(Statement {
         line: line.number,
-        text: line.text,
+        span: line.span,
         step,
     })
 }

@@ -37,6 +37,11 @@ fn arguments(rt: HostRuntime) -> Result<(), Fail> {
             .map(|argument| String::from_str(heap, argument))
             .try_collect(heap)?;
         assert_eq!(rt; Command::try_from(all.as_slice()), expected);
+        let command = Command::from_arguments(all.as_slice());
+        match expected {
+            Ok(expected) => assert_eq!(rt; command, expected),
+            Err(Misused) => assert_eq!(rt; command, Command::Misused),
+        }
     }
     Ok(())
 }

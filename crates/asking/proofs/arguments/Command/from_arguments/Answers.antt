@@ -1,5 +1,5 @@
 use Rattle.std.proofs.Common.{◌≡◌, ℕ, List, [], ◌∷◌, map, length, get_or, string_bytes, codes, ap, arith, rules, ◌∙◌, sym}
-use Rattle.asking.proofs.arguments.CommandTryFromRefSliceString.try_from.Goals as goal
+use Rattle.asking.proofs.arguments.Command.from_arguments.Goals as goal
 
 -- a list of one element
 one : {X : Type 0} (f : X → List ℕ) (xs : List X) (d : X) (bytes : List ℕ) → length xs ≡ 1 → f (get_or xs 0 d) ≡ bytes → map f xs ≡ bytes ∷ []
