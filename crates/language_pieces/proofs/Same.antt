@@ -1,8 +1,9 @@
 -- Bytes that are the same.
-use Rattle.std.proofs.Common.{◌≡◌, ◌≢◌, ℕ, suc, length, get_or, ne_eqb, codes, true, false, ◌&&◌, eqb, [], ◌∷◌, refl, ap, arith, rules, Decides}
+use Rattle.std.proofs.Common.{◌≡◌, ◌≢◌, ℕ, suc, length, get_or, ne_eqb, codes, true, false, ◌&&◌, eqb, List, [], ◌∷◌, refl, ap, arith, rules, Decides}
+use Rattle.std.specs.List.{list_any}
 use lib.Pointwise.{pointwise}
 use Rattle.std.proofs.lemmas.Slice.Eq.{compares_Decides, text_from_reads}
-use Rattle.meaning.specs.Base.{Bytes, same_bytes}
+use Rattle.meaning.specs.Base.{Bytes, same_bytes, among}
 
 pub same_decides : (a b : Bytes) → Decides (same_bytes a b) (a ≡ b)
 same_decides a b = compares_Decides same_bytes (search rules) a b
@@ -18,6 +19,11 @@ same_turned [] [] = refl
 same_turned [] (y ∷ ys) = refl
 same_turned (x ∷ xs) [] = refl
 same_turned (x ∷ xs) (y ∷ ys) = grind (arith, same_turned xs ys)
+
+-- a word in a table of words
+pub in_table : (word : Bytes) (table : List Bytes) → list_any (λ entry. pointwise eqb entry word) table ≡ among word table
+in_table word [] = refl
+in_table word (entry ∷ table) = rw (pointwise_same entry word, same_turned entry word, in_table word table)
 
 -- bytes of different lengths
 pub same_length : (a b : Bytes) → length a ≢ length b → same_bytes a b ≡ false

@@ -2,7 +2,7 @@
 use crate::checking::*;
 use crate::faults::*;
 use crate::plans::*;
-use reference_reading::names::find;
+use reference_reading::names::find_in_text;
 use reference_reading::questions::*;
 use reference_reading::spans::*;
 use reference_values::values::*;
@@ -100,7 +100,9 @@ impl<'b> Before<'b> {
     pub fn place(self, name: Span) -> Result<Place, Unsound> {
         let columns = self.columns.all.as_slice();
         let text = self.tables.text;
-        let at = find(text, columns, name.of(text)).ok_or(Unsound::NoColumn(name, self.line))?;
+        let at = find_in_text(text, columns, name.of(text)).ok_or(Unsound::NoColumn(
+            name, self.line,
+        ))?;
         Ok(Place {
             at,
             column: columns[at],

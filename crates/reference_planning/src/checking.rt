@@ -3,7 +3,7 @@ ghost use Rattle.std.specs.Prelude.{◌≡◌, ◌<◌, length, IfOk};
 
 use crate::faults::*;
 use crate::plans::*;
-use reference_reading::names::find;
+use reference_reading::names::find_in_text;
 use reference_reading::questions::*;
 use reference_reading::spans::*;
 use std::alloc::Global;
@@ -22,7 +22,7 @@ impl Columns {
             return Err(Unsound::TooManyColumns(all.len()));
         }
         for (i, column) in all.iter().enumerate() {
-            if find(text, &all[..i], column.name.of(text)).is_some() {
+            if find_in_text(text, &all[..i], column.name.of(text)).is_some() {
                 return Err(Unsound::SameColumn(column.name));
             }
         }
@@ -55,7 +55,7 @@ impl Tables<'_> {
     pub fn find(self, name: Span) -> Result<usize, Unsound>
         ensures { IfOk result (λ i. i < length self.entry.all.now) }
     {
-        find(self.text, self.all, name.of(self.text)).ok_or(Unsound::NoTable(name))
+        find_in_text(self.text, self.all, name.of(self.text)).ok_or(Unsound::NoTable(name))
     }
 
     // The columns of a table.
@@ -74,7 +74,7 @@ impl Tables<'_> {
         table: &TableDecl,
         border: u64,
     ) -> Result<(), Unsound> {
-        if find(self.text, before, table.name.of(self.text)).is_some() {
+        if find_in_text(self.text, before, table.name.of(self.text)).is_some() {
             return Err(Unsound::SameTable(table.name));
         }
         let _ = self.columns_of(table)?;

@@ -3,7 +3,7 @@ use crate::binding::*;
 use crate::checking::*;
 use crate::faults::*;
 use crate::plans::*;
-use reference_reading::names::find;
+use reference_reading::names::find_in_text;
 use reference_reading::questions::*;
 use reference_reading::spans::*;
 
@@ -69,7 +69,7 @@ impl<'b> Before<'b> {
         let table = self.tables.find(join.table)?;
         let others = self.tables.columns_of(&self.tables.all[table])?.all;
         let place = self.place(join.column)?;
-        let other_column = find(text, others.as_slice(), join.other_column.of(text)).ok_or(
+        let other_column = find_in_text(text, others.as_slice(), join.other_column.of(text)).ok_or(
             Unsound::NotInTable(join.other_column, join.table),
         )?;
         if others[other_column].kind != place.column.kind {

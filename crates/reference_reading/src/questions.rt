@@ -1,5 +1,5 @@
 // A question as it was read: its tables, the one that it begins with, its steps. Names are parts of the text.
-use crate::names::Named;
+use crate::names::NamedInText;
 use crate::spans::*;
 pub use reference_values::kinds::{Kind, Operator};
 
@@ -9,7 +9,7 @@ pub struct Column {
     pub kind: Kind,
 }
 
-impl Named for Column {
+impl NamedInText for Column {
     ghost called = { λ column. column.name };
 
     fn name(&self) -> Span {
@@ -32,7 +32,7 @@ pub struct TableDecl {
     pub columns: Vec<StoredColumn>,
 }
 
-impl Named for TableDecl {
+impl NamedInText for TableDecl {
     ghost called = { λ table. table.name };
 
     fn name(&self) -> Span {

@@ -8,6 +8,8 @@ mod calls;
 #[cfg(test)]
 mod depth;
 #[cfg(test)]
+mod names;
+#[cfg(test)]
 mod outliving;
 #[cfg(test)]
 mod refusals;
